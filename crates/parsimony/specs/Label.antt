@@ -1,0 +1,26 @@
+-- The labelling that is returned: the choosing step and the descent from a start.
+-- Assumes nothing.
+use Prim.Native.Nat.{ℕ}
+use Rattle.parsimony.specs.Column.{Column}
+use Rattle.parsimony.specs.Least.{low, lowest}
+use Rattle.parsimony.specs.Row.{row, through}
+use Rattle.parsimony.specs.Tree.{descend}
+
+-- the choosing step: the state of a child with this row under a parent in state x, by the tie rule
+unfoldable pub choose : (ℕ → ℕ → (ℕ → ℕ) → ℕ) → Column → (ℕ → ℕ) → ℕ → ℕ
+choose rule P childRow x = rule (P .states) x (through P childRow x)
+
+-- the labelling from a start x for the root: each child by the choosing step, given its parent's state
+unfoldable pub labelFrom : (ℕ → ℕ → (ℕ → ℕ) → ℕ) → Column → ℕ → ℕ → ℕ
+unfolding choose descend row
+labelFrom rule P x = descend (P .last) (P .kids) (λ u. choose rule P (row P u)) x
+
+-- the free start: the lowest state among the least entries of the root's row
+unfoldable pub freeStart : Column → ℕ
+unfolding low row
+freeStart P = low (row P (P .last)) (P .states)
+
+-- the labelling returned: from the free start, ties to the lowest
+unfoldable pub label : Column → ℕ → ℕ
+unfolding labelFrom freeStart lowest
+label P = labelFrom lowest P (freeStart P)
