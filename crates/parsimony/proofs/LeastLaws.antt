@@ -6,7 +6,7 @@ use native.Mathlib.Nat.{not-suc-le-zero, le-antisymm}
 use native.Mathlib.Omega.{arith}
 use borrow.Author.Tests.{lt-ltb, le-ltb}
 use lib.Dec.{ltb}
-use Rattle.parsimony.specs.Least.{Least, low, least, TieRule, lowest}
+use Rattle.parsimony.specs.Least.{Least, LowestLeast, low, least, TieRule, lowest}
 use Rattle.parsimony.specs.Test.{pick}
 use Rattle.parsimony.proofs.Order.{by-lt, by-eq, pick-true, pick-false}
 
@@ -100,6 +100,16 @@ least-value f s y h =
 pub least-same : (f g : ℕ → ℕ) (s : ℕ) → 0 < s → ((y : ℕ) → y < s → f y ≡ g y) → least f s ≡ least g s
 unfolding least
 least-same f g s pos h = h (low f s) (low-within f s pos) ∙ ap g (low-same f g s h)
+
+-- the lowest place is the lowest least, and there is no other
+pub low-lowest : (f : ℕ → ℕ) (s : ℕ) → 0 < s → LowestLeast f s (low f s)
+low-lowest f s h = record { least = low-least f s h; first = low-first f s }
+
+pub lowest-least-unique : (f : ℕ → ℕ) (s y z : ℕ) → LowestLeast f s y → LowestLeast f s z → y ≡ z
+lowest-least-unique f s y z hy hz =
+    by-lt y z (λ k. absurd (let a = hz .first y k in let b = hy .least .below z (hz .least .within) in omega arith))
+    (λ k. by-lt z y (λ m. absurd (let a = hy .first z m in let b = hz .least .below y (hy .least .within) in omega arith))
+    (λ m. omega arith))
 
 -- lowest is a tie rule
 pub lowest-rule : TieRule lowest

@@ -10,6 +10,11 @@ pub record Least (f : ℕ → ℕ) (s y : ℕ) : Type 0 where
   pub within : y < s
   pub below : (z : ℕ) → z < s → f y ≤ f z
 
+-- y is the lowest number at which f is least below s
+pub record LowestLeast (f : ℕ → ℕ) (s y : ℕ) : Type 0 where
+  pub least : Least f s y
+  pub first : (z : ℕ) → z < y → f y < f z
+
 -- the lowest number below s at which f is least
 unfoldable pub low : (ℕ → ℕ) → ℕ → ℕ
 unfolding pick

@@ -15,3 +15,4 @@ pub mod Row
 pub mod Label
 pub mod NodeSet
 pub mod Counting
+pub mod Sound
