@@ -14,4 +14,6 @@ pub mod StateSetLaws
 pub mod StateCountLaws
 pub mod SetLaws
 pub mod Scoring
+pub mod Unique
+pub mod Examples
 pub mod Cases

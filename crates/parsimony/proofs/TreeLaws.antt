@@ -221,16 +221,19 @@ module _ (last : ℕ) (kids : ℕ → Kids) (rooted : Rooted last kids) (give : 
         descend-child last p u h c ∙ ap (give u) (descend-levels p h last (suc last) (omega arith) (omega arith))
       }
 
-  -- and nothing else does
-  pub descent-unique : (l m : ℕ → ℕ) → Descent last kids give start l → Descent last kids give start m
+
+module _ (last : ℕ) (kids : ℕ → Kids) (rooted : Rooted last kids) (start : ℕ) where
+  -- nothing else meets them: work by steps that give the same has the same values
+  pub descent-unique : (give take : ℕ → ℕ → ℕ) → ((u x : ℕ) → u < last → give u x ≡ take u x)
+      → (l m : ℕ → ℕ) → Descent last kids give start l → Descent last kids take start m
       → (v : ℕ) → v ≤ last → l v ≡ m v
-  descent-unique l m dl dm = downward last _ go
+  descent-unique give take same l m dl dm = downward last _ go
     where
       go : (v : ℕ) → v ≤ last → ((w : ℕ) → v < w → w ≤ last → l w ≡ m w) → l v ≡ m v
       go v h ih =
           by-lt v last
           (λ below. let (p, hp, c) = parent-has last kids rooted v below in
           let b = rooted .below hp c in
-          dl .edge hp c ∙ ap (give v) (ih p b hp) ∙ sym (dm .edge hp c))
+          dl .edge hp c ∙ ap (give v) (ih p b hp) ∙ same v (m p) below ∙ sym (dm .edge hp c))
           (λ top. let e : v ≡ last = omega arith in
           ap l e ∙ dl .root ∙ sym (dm .root) ∙ ap m (sym e))

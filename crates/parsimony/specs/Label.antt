@@ -4,11 +4,15 @@ use Prim.Native.Nat.{ℕ}
 use Rattle.parsimony.specs.Column.{Column}
 use Rattle.parsimony.specs.Least.{low, lowest}
 use Rattle.parsimony.specs.Row.{row, through}
-use Rattle.parsimony.specs.Tree.{descend}
+use Rattle.parsimony.specs.Tree.{descend, Descent}
 
 -- the choosing step: the state of a child with this row under a parent in state x, by the tie rule
 unfoldable pub choose : (ℕ → ℕ → (ℕ → ℕ) → ℕ) → Column → (ℕ → ℕ) → ℕ → ℕ
 choose rule P childRow x = rule (P .states) x (through P childRow x)
+
+-- l is the labelling from a start x, read off the rows R: the root takes x, each child what the choosing step gives
+abbrev pub IsLabels : (ℕ → ℕ → (ℕ → ℕ) → ℕ) → Column → (ℕ → ℕ → ℕ) → ℕ → (ℕ → ℕ) → Type 0
+IsLabels rule P R x l = Descent (P .last) (P .kids) (λ u. choose rule P (R u)) x l
 
 -- the labelling from a start x for the root: each child by the choosing step, given its parent's state
 unfoldable pub labelFrom : (ℕ → ℕ → (ℕ → ℕ) → ℕ) → Column → ℕ → ℕ → ℕ

@@ -16,3 +16,4 @@ pub mod Label
 pub mod NodeSet
 pub mod Counting
 pub mod Sound
+pub mod Examples

@@ -9,7 +9,7 @@ use Rattle.parsimony.specs.Labelling.{LeastLabelling, LeastFrom}
 use Rattle.parsimony.specs.Row.{row, through, up, score}
 use Rattle.parsimony.specs.StateSet.{Member, holds, gather}
 use Rattle.parsimony.specs.Test.{both, some}
-use Rattle.parsimony.specs.Tree.{descend}
+use Rattle.parsimony.specs.Tree.{descend, Descent}
 
 -- some least labelling takes state y at node v
 abbrev pub Taken : Column → ℕ → ℕ → Type 0
@@ -28,6 +28,10 @@ reaches P childRow x y = eqb (through P childRow x y) (up P childRow x)
 unfoldable pub childSet : Column → (ℕ → ℕ) → ℕ → ℕ
 unfolding reaches both some holds gather
 childSet P childRow w = gather (λ y. some (λ x. both (holds w x) (reaches P childRow x y)) (P .states)) (P .states)
+
+-- S has the node sets from a start set w, read off the rows R: the root's is w, each child's what the set step gives
+abbrev pub IsSets : Column → (ℕ → ℕ → ℕ) → ℕ → (ℕ → ℕ) → Type 0
+IsSets P R w S = Descent (P .last) (P .kids) (λ u. childSet P (R u)) w S
 
 -- the node sets from a start set w for the root
 unfoldable pub setsFrom : Column → ℕ → ℕ → ℕ
