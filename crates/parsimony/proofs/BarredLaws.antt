@@ -1,32 +1,30 @@
 -- Laws of the sum in which a barred term bars.
 -- Assumes nothing.
-use mathlib.Core.Path.{_≡_, refl, ap, sym, _∙_}
+use mathlib.Core.Path.{_≡_, _∙_}
 use Prim.Native.Nat.{ℕ, _+_, _≤_, _<_}
 use native.Mathlib.Omega.{arith}
 use borrow.Author.Tests.{eq-eqb, ne-eqb}
-use lib.Dec.{eqb}
 use Rattle.parsimony.specs.Barred.{barred, plus}
-use Rattle.parsimony.specs.Test.{pick}
 use Rattle.parsimony.proofs.Order.{by-eq, pick-true, pick-false}
 
 -- a sum with a barred first term is barred
 pub plus-left : (a b : ℕ) → a ≡ barred → plus a b ≡ barred
 unfolding plus
-plus-left a b h = pick-true barred (pick (eqb b barred) barred (a + b)) (eq-eqb a barred h)
+plus-left a b h = pick-true barred _ (eq-eqb a barred h)
 
 -- a sum with a barred second term is barred
 pub plus-right : (a b : ℕ) → b ≡ barred → plus a b ≡ barred
 unfolding plus
 plus-right a b h =
     by-eq a barred (plus-left a b)
-    (λ n. pick-false barred (pick (eqb b barred) barred (a + b)) (ne-eqb a barred n)
+    (λ n. pick-false barred _ (ne-eqb a barred n)
     ∙ pick-true barred (a + b) (eq-eqb b barred h))
 
 -- a sum of two terms that are not barred is their sum
 pub plus-open : (a b : ℕ) → (a ≡ barred → ⊥) → (b ≡ barred → ⊥) → plus a b ≡ a + b
 unfolding plus
 plus-open a b n m =
-    pick-false barred (pick (eqb b barred) barred (a + b)) (ne-eqb a barred n)
+    pick-false barred _ (ne-eqb a barred n)
     ∙ pick-false barred (a + b) (ne-eqb b barred m)
 
 -- it is never more than the plain sum

@@ -1,20 +1,19 @@
 -- The labelling from a start is least among those with that root, for every tie rule.
 -- Assumes nothing.
-use mathlib.Core.Logic.{_⊎_, inl, inr}
-use mathlib.Core.Path.{_≡_, refl, ap, sym, _∙_, subst}
-use Prim.Native.Nat.{ℕ, zero, suc, _+_, _≤_, _<_}
+use mathlib.Core.Path.{_≡_, ap, sym, _∙_, subst}
+use Prim.Native.Nat.{ℕ, _+_, _≤_, _<_}
 use native.Mathlib.Omega.{arith}
-use Rattle.parsimony.specs.Barred.{barred, plus}
+use Rattle.parsimony.specs.Barred.{barred}
 use Rattle.parsimony.specs.Column.{Column}
 use Rattle.parsimony.specs.Label.{choose, labelFrom}
 use Rattle.parsimony.specs.Labelling.{Agrees, costOf, LeastFrom}
-use Rattle.parsimony.specs.Least.{Least, TieRule}
+use Rattle.parsimony.specs.Least.{TieRule}
 use Rattle.parsimony.specs.Row.{through, up, row}
 use Rattle.parsimony.specs.Sound.{Sound}
-use Rattle.parsimony.specs.Tree.{Kids, tip, two, Has, Descent}
+use Rattle.parsimony.specs.Tree.{tip, Has, Descent}
 use Rattle.parsimony.proofs.BarredLaws.{plus-below, below-plus}
 use Rattle.parsimony.proofs.LeastLaws.{least-value}
-use Rattle.parsimony.proofs.Order.{by-lt, downward}
+use Rattle.parsimony.proofs.Order.{by-lt}
 use Rattle.parsimony.proofs.RowLaws.{row-tip}
 use Rattle.parsimony.proofs.Size.{up-open, rows-balance}
 use Rattle.parsimony.proofs.Slack.{Tight, cost-least, tight-cost, cost-tight}
@@ -112,13 +111,13 @@ module _ (most : ℕ) (P : Column) (sound : Sound most P) where
       -- and is least among the labellings with that root, unless the root's state is barred
       pub label-from-least : (row P (P .last) x ≡ barred → ⊥) → LeastFrom P x (labelFrom rule P x)
       label-from-least unbarred =
-          record
-          { agrees = tight-agrees (labelFrom rule P x) label-states label-tight
-            (λ e. unbarred (ap (row P (P .last)) (sym (label-meets x .root)) ∙ e))
-          ; root = label-meets x .root
-          ; least = λ other agrees e.
-            let c = label-from-costs in
-            let o = costs-least other (agrees .states) in
-            let q = ap (row P (P .last)) e in
-            omega arith
+          record {
+            agrees = tight-agrees (labelFrom rule P x) label-states label-tight
+                (λ e. unbarred (ap (row P (P .last)) (sym (label-meets x .root)) ∙ e));
+            root = label-meets x .root;
+            least = λ other agrees e.
+                let c = label-from-costs in
+                let o = costs-least other (agrees .states) in
+                let q = ap (row P (P .last)) e in
+                omega arith;
           }

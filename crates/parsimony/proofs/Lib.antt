@@ -13,7 +13,13 @@ pub mod LabelLaws
 pub mod StateSetLaws
 pub mod StateCountLaws
 pub mod SetLaws
+pub mod CountLaws
+pub mod PrelimLaws
 pub mod Scoring
 pub mod Unique
+pub mod LabellingLaws
+pub mod ColumnLaws
+pub mod Fits
+pub mod Demand2
 pub mod Examples
 pub mod Cases

@@ -1,16 +1,16 @@
 -- Laws of rows: their equations, and that nothing else meets them.
 -- Assumes nothing.
-use mathlib.Core.Logic.{_⊎_, inl, inr}
-use mathlib.Core.Path.{_≡_, refl, ap, ap₂, sym, _∙_, subst}
-use Prim.Native.Nat.{ℕ, zero, suc, _+_, _≤_, _<_}
+use mathlib.Core.Logic.{inl, inr}
+use mathlib.Core.Path.{_≡_, refl, ap, ap₂, sym, _∙_}
+use Prim.Native.Nat.{ℕ, _+_, _≤_, _<_}
 use native.Mathlib.Omega.{arith}
 use Rattle.parsimony.specs.Barred.{plus}
 use Rattle.parsimony.specs.Column.{Column}
-use Rattle.parsimony.specs.Least.{least, low}
+use Rattle.parsimony.specs.Least.{low}
 use Rattle.parsimony.specs.Row.{through, up, innerRow, row, IsRows}
-use Rattle.parsimony.specs.Tree.{Kids, tip, two, Has, Rooted, merge, ascend}
+use Rattle.parsimony.specs.Tree.{Kids, tip, two, Has, Rooted, merge}
 use Rattle.parsimony.proofs.BarredLaws.{plus-le}
-use Rattle.parsimony.proofs.LeastLaws.{least-below, least-same, least-low, low-within}
+use Rattle.parsimony.proofs.LeastLaws.{least-below, least-same, least-low}
 use Rattle.parsimony.proofs.Order.{strong}
 use Rattle.parsimony.proofs.TreeLaws.{ascend-step}
 

@@ -1,10 +1,9 @@
 -- Demand 2 over every sound column: the score is least and reached, the labelling returned is least with ties to the
 -- lowest, and a node's set holds exactly the states that least labellings take there; the same for forced starts.
 -- Assumes nothing.
-use mathlib.Core.Logic.{_⊎_, inl, inr, _↔_}
+use mathlib.Core.Logic.{_↔_}
 use mathlib.Core.Path.{_≡_, refl, ap, sym, _∙_, subst}
-use Prim.Native.Nat.{ℕ, zero, suc, _+_, _^_, _≤_, _<_}
-use native.Mathlib.Nat.{le-antisymm}
+use Prim.Native.Nat.{ℕ, _^_, _≤_, _<_}
 use native.Mathlib.Omega.{arith}
 use borrow.Author.Tests.{eq-eqb, eqb-true}
 use lib.Dec.{eqb}
@@ -14,19 +13,15 @@ use Rattle.parsimony.specs.Label.{choose, labelFrom, freeStart, label}
 use Rattle.parsimony.specs.Labelling.{Agrees, costOf, LeastLabelling, LeastFrom, IsScore}
 use Rattle.parsimony.specs.Least.{LowestLeast, TieRule, lowest}
 use Rattle.parsimony.specs.NodeSet.{Taken, TakenFrom, setsFrom, freeSet, sets}
-use Rattle.parsimony.specs.Row.{through, up, row, score}
+use Rattle.parsimony.specs.Row.{through, row, score}
 use Rattle.parsimony.specs.Sound.{Sound}
-use Rattle.parsimony.specs.StateSet.{Member, one}
+use Rattle.parsimony.specs.StateSet.{Member}
 use Rattle.parsimony.specs.Tree.{Has}
-use Rattle.parsimony.proofs.LabelLaws.{
-  TightLabels, States, tight-agrees, tight-costs, costs-least, costs-tight, label-meets, label-states, label-tight,
-  label-from-costs, label-from-least,
-}
+use Rattle.parsimony.proofs.LabelLaws.{TightLabels, States, tight-agrees, tight-costs, costs-least, costs-tight, label-meets, label-from-costs, label-from-least}
 use Rattle.parsimony.proofs.LeastLaws.{least-below, least-low, low-within, low-lowest, lowest-rule}
 use Rattle.parsimony.proofs.SetLaws.{TightAt, sets-meet, sets-within, sets-taken, taken-sets}
-use Rattle.parsimony.proofs.Size.{bound, bound-fits, row-open}
+use Rattle.parsimony.proofs.Size.{bound-fits, row-open}
 use Rattle.parsimony.proofs.StateCountLaws.{gather-member, gather-within}
-use Rattle.parsimony.proofs.StateSetLaws.{one-member}
 
 -- two scores of a column are equal
 pub score-unique : (P : Column) (j k : ℕ) → IsScore P j → IsScore P k → j ≡ k
@@ -104,9 +99,9 @@ module _ (most : ℕ) (P : Column) (sound : Sound most P) where
   -- so it is a least labelling
   pub label-least : LeastLabelling P (label P)
   label-least =
-      record
-      { agrees = label-agrees
-      ; least = λ other agrees. let c = label-costs in let s = score-no-less other agrees in omega arith
+      record {
+        agrees = label-agrees;
+        least = λ other agrees. let c = label-costs in let s = score-no-less other agrees in omega arith;
       }
 
   -- the score by rows is the score
@@ -146,19 +141,19 @@ module _ (most : ℕ) (P : Column) (sound : Sound most P) where
 
   tight-least : (l : ℕ → ℕ) → States P l → TightLabels P l → row P (P .last) (l (P .last)) ≡ score P → LeastLabelling P l
   tight-least l states tight root =
-      record
-      { agrees = tight-agrees most P sound l states tight (λ e. let o = score-open in omega arith)
-      ; least = λ other agrees.
-        let c = tight-costs most P sound l states tight in
-        let s = score-no-less other agrees in
-        omega arith
+      record {
+        agrees = tight-agrees most P sound l states tight (λ e. let o = score-open in omega arith);
+        least = λ other agrees.
+            let c = tight-costs most P sound l states tight in
+            let s = score-no-less other agrees in
+            omega arith;
       }
 
   -- the same among the labellings with the root in x
   from-tight : (x : ℕ) (l : ℕ → ℕ) → x < P .states → (row P (P .last) x ≡ barred → ⊥) → LeastFrom P x l → TightLabels P l
   from-tight x l hx open-root least =
       let best = least .least (labelFrom lowest P x) (rule-forced lowest lowest-rule x hx open-root .agrees)
-          (rule-root lowest lowest-rule x) in
+      (rule-root lowest lowest-rule x) in
       let c = rule-forced-costs lowest lowest-rule x hx in
       let e = ap (row P (P .last)) (least .root) in
       costs-tight most P sound l (least .agrees .states) (omega arith)
@@ -166,14 +161,14 @@ module _ (most : ℕ) (P : Column) (sound : Sound most P) where
   tight-from : (l : ℕ → ℕ) → States P l → TightLabels P l → (row P (P .last) (l (P .last)) ≡ barred → ⊥)
       → LeastFrom P (l (P .last)) l
   tight-from l states tight open-root =
-      record
-      { agrees = tight-agrees most P sound l states tight open-root
-      ; root = refl
-      ; least = λ other agrees e.
-        let c = tight-costs most P sound l states tight in
-        let o = costs-least most P sound other (agrees .states) in
-        let q = ap (row P (P .last)) e in
-        omega arith
+      record {
+        agrees = tight-agrees most P sound l states tight open-root;
+        root = refl;
+        least = λ other agrees e.
+            let c = tight-costs most P sound l states tight in
+            let o = costs-least most P sound other (agrees .states) in
+            let q = ap (row P (P .last)) e in
+            omega arith;
       }
 
   free-within : freeSet P < 2 ^ P .states
@@ -184,51 +179,51 @@ module _ (most : ℕ) (P : Column) (sound : Sound most P) where
   pub free-member : (x : ℕ) → Member (freeSet P) x ↔ ((x < P .states) × (row P (P .last) x ≡ score P))
   unfolding freeSet
   free-member x =
-      let test = gather-member (λ y. eqb (row P (P .last) y) (score P)) (P .states) x in
-      ( (λ m. let (h, e) = test .0 m in (h, eqb-true _ _ e))
-      , (λ m. test .1 (m .0, eq-eqb _ _ (m .1)))
+      let test = gather-member (λ y. eqb (row P (P .last) y) (score P)) (P .states) x in (
+        (λ m. let (h, e) = test .0 m in (h, eqb-true _ _ e)),
+        (λ m. test .1 (m .0, eq-eqb _ _ (m .1))),
       )
 
   -- a node's set holds a state exactly when some least labelling takes it there
   pub set-exactly : (v y : ℕ) → v ≤ P .last → Member (sets P v) y ↔ Taken P v y
   unfolding sets
-  set-exactly v y h =
-      ( (λ m. let t : TightAt P (freeSet P) v y = sets-taken most P sound (freeSet P) free-within v y h m in
-        (t .labels, tight-least (t .labels) (t .states) (t .tight) (free-member (t .labels (P .last)) .0 (t .root) .1), t .takes))
-      , (λ taken. let (l, least, e) = taken in
+  set-exactly v y h = (
+    (λ m. let t : TightAt P (freeSet P) v y = sets-taken most P sound (freeSet P) free-within v y h m in
+        (t .labels, tight-least (t .labels) (t .states) (t .tight) (free-member (t .labels (P .last)) .0 (t .root) .1), t .takes)),
+    (λ taken. let (l, least, e) = taken in
         let (tight, root) = least-tight l least in
         let states = least .agrees .states in
         taken-sets most P sound (freeSet P) free-within v y h
-        (record
-        { labels = l
-        ; states = states
-        ; tight = tight
-        ; root = free-member (l (P .last)) .1 (states (P .last) (omega arith), root)
-        ; takes = e
-        }))
-      )
+        (record {
+          labels = l;
+          states = states;
+          tight = tight;
+          root = free-member (l (P .last)) .1 (states (P .last) (omega arith), root);
+          takes = e;
+        })),
+  )
 
   module _ (w : ℕ) (hw : w < 2 ^ P .states) (open-root : (x : ℕ) → Member w x → row P (P .last) x ≡ barred → ⊥) where
     -- from a start set of states that the root's row does not bar, a node's set holds a state exactly when, for some
     -- member x, some labelling least among those with the root in x takes it there
     pub set-from-exactly : (v y : ℕ) → v ≤ P .last → Member (setsFrom P w v) y ↔ TakenFrom P w v y
-    set-from-exactly v y h =
-        ( (λ m. let t : TightAt P w v y = sets-taken most P sound w hw v y h m in
+    set-from-exactly v y h = (
+      (λ m. let t : TightAt P w v y = sets-taken most P sound w hw v y h m in
           let l = t .labels in
-          (l (P .last), t .root, (l, tight-from l (t .states) (t .tight) (open-root (l (P .last)) (t .root)), t .takes)))
-        , (λ taken. let (x, mx, (l, least, e)) = taken in
+          (l (P .last), t .root, (l, tight-from l (t .states) (t .tight) (open-root (l (P .last)) (t .root)), t .takes))),
+      (λ taken. let (x, mx, (l, least, e)) = taken in
           let rooted : Member w (l (P .last)) = subst (Member w) (sym (least .root)) mx in
           let hx : x < P .states =
-              subst (λ z. z < P .states) (least .root) (least .agrees .states (P .last) (omega arith)) in
+          subst (λ z. z < P .states) (least .root) (least .agrees .states (P .last) (omega arith)) in
           taken-sets most P sound w hw v y h
-          (record
-          { labels = l
-          ; states = least .agrees .states
-          ; tight = from-tight x l hx (open-root x mx) least
-          ; root = rooted
-          ; takes = e
-          }))
-        )
+          (record {
+            labels = l;
+            states = least .agrees .states;
+            tight = from-tight x l hx (open-root x mx) least;
+            root = rooted;
+            takes = e;
+          })),
+    )
 
     -- the root's set is the start
     pub set-from-root : setsFrom P w (P .last) ≡ w

@@ -1,9 +1,9 @@
 -- The node sets from a start set hold exactly the states that tight labellings take.
 -- Assumes nothing.
-use mathlib.Core.Bool.{Bool, true, false}
-use mathlib.Core.Logic.{_⊎_, inl, inr, _↔_}
+use mathlib.Core.Bool.{Bool}
+use mathlib.Core.Logic.{_↔_}
 use mathlib.Core.Path.{_≡_, refl, ap, sym, _∙_, subst}
-use Prim.Native.Nat.{ℕ, zero, suc, _+_, _^_, _≤_, _<_}
+use Prim.Native.Nat.{ℕ, suc, _+_, _^_, _≤_, _<_}
 use native.Mathlib.Omega.{arith}
 use borrow.Author.Tests.{eq-eqb, ne-eqb, eqb-true}
 use lib.Dec.{eqb}
@@ -13,16 +13,30 @@ use Rattle.parsimony.specs.Least.{lowest}
 use Rattle.parsimony.specs.NodeSet.{reaches, childSet, setsFrom}
 use Rattle.parsimony.specs.Row.{through, up, row}
 use Rattle.parsimony.specs.Sound.{Sound}
-use Rattle.parsimony.specs.StateSet.{Member, bit, holds, gather}
+use Rattle.parsimony.specs.StateSet.{Member, holds, gather}
 use Rattle.parsimony.specs.Test.{pick, both, some}
-use Rattle.parsimony.specs.Tree.{Kids, tip, two, Has, Descent, parent, descend}
+use Rattle.parsimony.specs.Tree.{Has, Descent, parent, descend}
 use Rattle.parsimony.proofs.LabelLaws.{
-  TightLabels, States, through-plain, plain-through, choose-state, choose-reaches, label-meets, label-states, label-tight,
+  TightLabels,
+  States,
+  through-plain,
+  plain-through,
+  choose-state,
+  choose-reaches,
+  label-meets,
+  label-states,
+  label-tight,
 }
 use Rattle.parsimony.proofs.LeastLaws.{lowest-rule}
 use Rattle.parsimony.proofs.Order.{by-lt, by-eq, pick-true, pick-false, downward}
 use Rattle.parsimony.proofs.StateCountLaws.{
-  gather-member, gather-within, some-true, some-here, both-left, both-right, both-true,
+  gather-member,
+  gather-within,
+  some-true,
+  some-here,
+  both-left,
+  both-right,
+  both-true,
 }
 use Rattle.parsimony.proofs.StateSetLaws.{holds-true, holds-member, member-within}
 use Rattle.parsimony.proofs.TreeLaws.{parent-has, parent-is, parent-unique, descend-meets}
@@ -36,25 +50,28 @@ child-member P r w y = (to, from)
   where
     test : ℕ → ℕ → Bool
     test y x = both (holds w x) (eqb (through P r x y) (up P r x))
+
     to : Member (gather (λ y. some (test y) (P .states)) (P .states)) y
         → (y < P .states) × ((x : ℕ) × (x < P .states) × Member w x × (through P r x y ≡ up P r x))
     to m =
         let (hy, found) = gather-member (λ y. some (test y) (P .states)) (P .states) y .0 m in
-        let (x, hx, both-hold) = some-true (test y) (P .states) found in
-        ( hy
-        , ( x
-          , hx
-          , holds-member w x (both-left (holds w x) (eqb (through P r x y) (up P r x)) both-hold)
-          , eqb-true (through P r x y) (up P r x) (both-right (holds w x) (eqb (through P r x y) (up P r x)) both-hold)
-          )
+        let (x, hx, both-hold) = some-true (test y) (P .states) found in (
+          hy,
+          (
+            x,
+            hx,
+            holds-member w x (both-left (holds w x) (eqb (through P r x y) (up P r x)) both-hold),
+            eqb-true (through P r x y) (up P r x) (both-right (holds w x) (eqb (through P r x y) (up P r x)) both-hold),
+          ),
         )
+
     from : (y < P .states) × ((x : ℕ) × (x < P .states) × Member w x × (through P r x y ≡ up P r x))
         → Member (gather (λ y. some (test y) (P .states)) (P .states)) y
     from (hy, (x, hx, mx, e)) =
-        gather-member (λ y. some (test y) (P .states)) (P .states) y .1
-        ( hy
-        , some-here (test y) (P .states) x hx
-          (both-true (holds w x) (eqb (through P r x y) (up P r x)) (holds-true w x mx) (eq-eqb (through P r x y) (up P r x) e))
+        gather-member (λ y. some (test y) (P .states)) (P .states) y .1 (
+          hy,
+          some-here (test y) (P .states) x hx
+              (both-true (holds w x) (eqb (through P r x y) (up P r x)) (holds-true w x mx) (eq-eqb (through P r x y) (up P r x) e)),
         )
 
 -- a tight labelling whose root is in the start set w and which takes y at node v
@@ -150,7 +167,7 @@ module _ (most : ℕ) (P : Column) (sound : Sound most P) where
         subst (λ z. P .cost z (turned l v y q) + row P q (turned l v y q) ≡ up P (row P q) z) (sym e)
         (subst (λ z. P .cost (l r) z + row P q z ≡ up P (row P q) (l r)) (sym lq) (tight r q hr cr)))
         (λ no-match. let lq : turned l v y q ≡ choose lowest P (row P q) (turned l v y r) =
-            meets .edge hr cr ∙ turn-fresh r q (turned l v y r) hr cr ne no-match in
+        meets .edge hr cr ∙ turn-fresh r q (turned l v y r) hr cr ne no-match in
         through-plain most P sound r q (turned l v y r) (turned l v y q) hr cr (turned-states r hr)
         (ap (through P (row P q) (turned l v y r)) lq ∙ choose-reaches most P sound lowest lowest-rule q (turned l v y r))))
 
@@ -182,28 +199,28 @@ module _ (most : ℕ) (P : Column) (sound : Sound most P) where
             (λ k. let (p, hp, c) = parent-has (P .last) (P .kids) (sound .tree) v k in
             let b = sound .tree .below hp c in
             let (hy, (x, hx, mx, reach)) = child-member P (row P v) (setsFrom P w p) y .0
-                (subst (λ z. Member z y) (sets-meet .edge hp c) m) in
+            (subst (λ z. Member z y) (sets-meet .edge hp c) m) in
             let above-v : TightAt P w p x = ih p b hp x mx in
             let l = above-v .labels in
             let reach-l : through P (row P v) (l p) y ≡ up P (row P v) (l p) =
-                subst (λ z. through P (row P v) z y ≡ up P (row P v) z) (sym (above-v .takes)) reach in
-            record
-            { labels = turned l v y
-            ; states = turned-states l (above-v .states) (above-v .tight) p v y hp c hy reach-l
-            ; tight = turned-tight l (above-v .states) (above-v .tight) p v y hp c hy reach-l
-            ; root = subst (λ z. Member w z)
-              (sym (meets l (above-v .states) (above-v .tight) p v y hp c hy reach-l .root)) (above-v .root)
-            ; takes = turned-takes l (above-v .states) (above-v .tight) p v y hp c hy reach-l
+            subst (λ z. through P (row P v) z y ≡ up P (row P v) z) (sym (above-v .takes)) reach in
+            record {
+              labels = turned l v y;
+              states = turned-states l (above-v .states) (above-v .tight) p v y hp c hy reach-l;
+              tight = turned-tight l (above-v .states) (above-v .tight) p v y hp c hy reach-l;
+              root = subst (λ z. Member w z)
+                  (sym (meets l (above-v .states) (above-v .tight) p v y hp c hy reach-l .root)) (above-v .root);
+              takes = turned-takes l (above-v .states) (above-v .tight) p v y hp c hy reach-l;
             })
             (λ k. let e : v ≡ P .last = omega arith in
             let my : Member w y = subst (λ z. Member z y) (ap (setsFrom P w) e ∙ sets-meet .root) m in
             let hy = member-within (P .states) w y hw my in
-            record
-            { labels = labelFrom lowest P y
-            ; states = label-states most P sound lowest lowest-rule y hy
-            ; tight = label-tight most P sound lowest lowest-rule y hy
-            ; root = subst (λ z. Member w z) (sym (label-meets most P sound lowest lowest-rule y .root)) my
-            ; takes = ap (labelFrom lowest P y) e ∙ label-meets most P sound lowest lowest-rule y .root
+            record {
+              labels = labelFrom lowest P y;
+              states = label-states most P sound lowest lowest-rule y hy;
+              tight = label-tight most P sound lowest lowest-rule y hy;
+              root = subst (λ z. Member w z) (sym (label-meets most P sound lowest lowest-rule y .root)) my;
+              takes = ap (labelFrom lowest P y) e ∙ label-meets most P sound lowest lowest-rule y .root;
             })
 
     -- and each state that a tight labelling takes is in the set
@@ -219,13 +236,14 @@ module _ (most : ℕ) (P : Column) (sound : Sound most P) where
             (λ k. let (p, hp, c) = parent-has (P .last) (P .kids) (sound .tree) v k in
             let b = sound .tree .below hp c in
             subst (λ z. Member z (t .labels v)) (sym (sets-meet .edge hp c))
-            (child-member P (row P v) (setsFrom P w p) (t .labels v) .1
-            ( t .states v h
-            , ( t .labels p
-              , t .states p hp
-              , ih p b hp
-              , plain-through most P sound p v (t .labels p) (t .labels v) hp c (t .states p hp) (t .tight p v hp c)
-              )
+            (child-member P (row P v) (setsFrom P w p) (t .labels v) .1 (
+              t .states v h,
+              (
+                t .labels p,
+                t .states p hp,
+                ih p b hp,
+                plain-through most P sound p v (t .labels p) (t .labels v) hp c (t .states p hp) (t .tight p v hp c),
+              ),
             )))
             (λ k. let e : v ≡ P .last = omega arith in
             subst (λ z. Member z (t .labels v)) (sym (ap (setsFrom P w) e ∙ sets-meet .root))

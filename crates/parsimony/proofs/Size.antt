@@ -1,16 +1,14 @@
 -- The size of rows: no sum that a row needs reaches the barred entry.
 -- Assumes nothing.
 use mathlib.Core.Logic.{_⊎_, inl, inr, ⊎-elim}
-use mathlib.Core.Path.{_≡_, refl, ap, ap₂, sym, _∙_, subst}
+use mathlib.Core.Path.{_≡_, refl, ap, sym, _∙_, subst}
 use Prim.Native.Nat.{ℕ, zero, suc, _+_, _*_, _≤_, _<_}
-use native.Mathlib.Nat.{mul-le-mul, mul-le-mul-right, suc-mul, le-trans, le-refl, mul-comm}
+use native.Mathlib.Nat.{mul-le-mul, suc-mul, le-trans, le-refl}
 use native.Mathlib.Omega.{arith}
-use lib.Dec.{lit<}
-use Rattle.parsimony.specs.Allowed.{mostHanded}
-use Rattle.parsimony.specs.Barred.{barred, plus}
+use Rattle.parsimony.specs.Barred.{barred}
 use Rattle.parsimony.specs.Column.{Column}
 use Rattle.parsimony.specs.Labelling.{costBelow, costOf}
-use Rattle.parsimony.specs.Row.{through, up, row}
+use Rattle.parsimony.specs.Row.{up, row}
 use Rattle.parsimony.specs.Sound.{Sound}
 use Rattle.parsimony.specs.Sum.{sum}
 use Rattle.parsimony.specs.Tree.{Kids, tip, two, Has, each, Rooted, merge, ascend}
@@ -77,10 +75,10 @@ module _ (last most : ℕ) (kids : ℕ → Kids) (tree : Rooted last kids) where
   bound-cost =
       sym
       (tight-cost dearest tree (λ v x. bound kids most v) (λ u x. 999 + bound kids most u)
-      (record
-      { tips = λ v x h e. bound-tip v h e
-      ; inner = λ v a b x h e k. bound-inner v a b h e
-      ; under = λ u x y h k m. le-refl (999 + bound kids most u)
+      (record {
+        tips = λ v x h e. bound-tip v h e;
+        inner = λ v a b x h e k. bound-inner v a b h e;
+        under = λ u x y h k m. le-refl (999 + bound kids most u);
       })
       (λ v. 0) (λ v h. omega arith) (λ p u h c. refl))
 
@@ -156,6 +154,7 @@ module _ (most : ℕ) (P : Column) (sound : Sound most P) where
           let ba = sound .tree .below h (subst (λ k. Has a k) (sym e) (inl refl)) in
           let bb = sound .tree .below h (subst (λ k. Has b k) (sym e) (inr refl)) in
           (0, sound .states, inner-small v a b 0 h e (sound .states) (ih a ba (omega arith)) (ih b bb (omega arith)))
+
       go : (v : ℕ)
           → ((u : ℕ) → u < v → u ≤ P .last → (y : ℕ) × (y < P .states) × (row P u y ≤ bound (P .kids) most u))
           → v ≤ P .last → (y : ℕ) × (y < P .states) × (row P v y ≤ bound (P .kids) most v)
@@ -199,14 +198,14 @@ module _ (most : ℕ) (P : Column) (sound : Sound most P) where
   -- rows and the least up an edge balance, as plain numbers
   pub rows-balance : Balanced P (row P) (λ u. up P (row P u))
   rows-balance =
-      record
-      { tips = λ v x h e. row-tip P (sound .tree) v x h e
-      ; inner = λ v a b x h e hx.
-        let ka : Has a (P .kids v) = subst (λ k. Has a k) (sym e) (inl refl) in
-        let kb : Has b (P .kids v) = subst (λ k. Has b k) (sym e) (inr refl) in
-        let oa = up-open v a x h ka hx in
-        let ob = up-open v b x h kb hx in
-        row-inner P (sound .tree) v a b x h e
-        ∙ plus-open (up P (row P a) x) (up P (row P b) x) (λ q. omega arith) (λ q. omega arith)
-      ; under = λ u x y h hx hy. up-le P (row P u) x y hy
+      record {
+        tips = λ v x h e. row-tip P (sound .tree) v x h e;
+        inner = λ v a b x h e hx.
+            let ka : Has a (P .kids v) = subst (λ k. Has a k) (sym e) (inl refl) in
+            let kb : Has b (P .kids v) = subst (λ k. Has b k) (sym e) (inr refl) in
+            let oa = up-open v a x h ka hx in
+            let ob = up-open v b x h kb hx in
+            row-inner P (sound .tree) v a b x h e
+            ∙ plus-open (up P (row P a) x) (up P (row P b) x) (λ q. omega arith) (λ q. omega arith);
+        under = λ u x y h hx hy. up-le P (row P u) x y hy;
       }

@@ -1,8 +1,8 @@
 -- The cost of a labelling is the root's entry plus the slack on the edges, for rows R and least costs U up an edge.
 -- Assumes nothing.
-use mathlib.Core.Logic.{_⊎_, inl, inr}
-use mathlib.Core.Path.{_≡_, refl, ap, sym, _∙_, subst}
-use Prim.Native.Nat.{ℕ, zero, suc, _+_, _-_, _≤_, _<_}
+use mathlib.Core.Logic.{inl, inr}
+use mathlib.Core.Path.{_≡_, refl, sym, subst}
+use Prim.Native.Nat.{ℕ, suc, _+_, _-_, _≤_, _<_}
 use native.Mathlib.Omega.{arith}
 use Rattle.parsimony.specs.Column.{Column}
 use Rattle.parsimony.specs.Labelling.{costBelow, costOf}
@@ -53,7 +53,7 @@ module _ (P : Column) (tree : Rooted (P .last) (P .kids)) (R U : ℕ → ℕ →
       let below : ℕ → ℕ = λ v. each f (P .kids v) in
       let n = suc (P .last) in
       let nodes : sum (λ v. cost v + below v) n ≡ sum (λ v. f v + slacks v) n =
-          sum-same (λ v. cost v + below v) (λ v. f v + slacks v) n (λ v h. node-slack v (omega arith) (P .kids v) refl) in
+      sum-same (λ v. cost v + below v) (λ v. f v + slacks v) n (λ v h. node-slack v (omega arith) (P .kids v) refl) in
       let left = sum-add cost below n in
       let right = sum-add f slacks n in
       let once = each-once (P .last) (P .kids) tree f in
@@ -69,7 +69,7 @@ module _ (P : Column) (tree : Rooted (P .last) (P .kids)) (R U : ℕ → ℕ →
   tight-cost t =
       let e = cost-slack in
       let z = sum-none (λ p. each (slack P R U l p) (P .kids p)) (suc (P .last))
-          (λ p h. each-none (slack P R U l p) (P .kids p) (λ u c. let q = t p u (omega arith) c in omega arith)) in
+      (λ p h. each-none (slack P R U l p) (P .kids p) (λ u c. let q = t p u (omega arith) c in omega arith)) in
       omega arith
 
   -- and where the cost is no more than the root's entry every edge is tight

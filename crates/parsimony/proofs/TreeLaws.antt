@@ -1,17 +1,31 @@
 -- Laws of trees: each node is met once, the parent is one node, and work up and down meets its equations.
 -- Assumes nothing.
-use mathlib.Core.Bool.{Bool, true, false}
-use mathlib.Core.Logic.{_⊎_, inl, inr, ⊎-elim}
+use mathlib.Core.Bool.{true, false}
+use mathlib.Core.Logic.{inl, inr, ⊎-elim}
 use mathlib.Core.Path.{_≡_, refl, ap, ap₂, sym, _∙_, subst}
 use Prim.Native.Nat.{ℕ, zero, suc, _+_, _*_, _≤_, _<_}
 use native.Mathlib.Nat.{mul-one, mul-zero, mul-add, not-suc-le-zero}
 use native.Mathlib.Omega.{arith}
-use borrow.Author.Tests.{eq-eqb, ne-eqb, eqb-true}
+use borrow.Author.Tests.{eq-eqb, ne-eqb}
 use lib.Dec.{eqb}
 use Rattle.parsimony.specs.Sum.{sum}
 use Rattle.parsimony.specs.Test.{at, pick}
 use Rattle.parsimony.specs.Tree.{
-  Kids, tip, two, Has, each, uses, Rooted, merge, ascendIn, ascend, has, parent, descendIn, descend, Descent,
+  Kids,
+  tip,
+  two,
+  Has,
+  each,
+  uses,
+  Rooted,
+  merge,
+  ascendIn,
+  ascend,
+  has,
+  parent,
+  descendIn,
+  descend,
+  Descent,
 }
 use Rattle.parsimony.proofs.Order.{by-lt, by-eq, pick-true, pick-false, at-same, at-other, strong, downward}
 use Rattle.parsimony.proofs.Sums.{sum-same, sum-scale, sum-swap, sum-at, sum-two, sum-some, sum-add, sum-none}
@@ -148,6 +162,7 @@ module _ {ℓ} {A : Type ℓ} (last : ℕ) (kids : ℕ → Kids) (rooted : Roote
           → merge k (own v) join (ascendIn kids own join m) ≡ merge k (own v) join (ascendIn kids own join n)
       at-kids v m n tip h = refl
       at-kids v m n (two a b) h = ap₂ join (h a (inl refl)) (h b (inr refl))
+
       go : (v : ℕ)
           → ((u : ℕ) → u < v → u ≤ last → (m n : ℕ) → u < m → u < n → ascendIn kids own join m u ≡ ascendIn kids own join n u)
           → v ≤ last → (m n : ℕ) → v < m → v < n → ascendIn kids own join m v ≡ ascendIn kids own join n v
@@ -184,7 +199,7 @@ module _ (last : ℕ) (kids : ℕ → Kids) (rooted : Rooted last kids) (give : 
       let b = rooted .below h c in
       let no-root : eqb u last ≡ false = ne-eqb u last (λ e. omega arith) in
       let step : descendIn last kids give start (suc levels) u
-          ≡ give u (descendIn last kids give start levels (parent kids (suc last) u)) = rw (no-root, descendIn) in
+      ≡ give u (descendIn last kids give start levels (parent kids (suc last) u)) = rw (no-root, descendIn) in
       step ∙ ap (λ q. give u (descendIn last kids give start levels q)) (parent-is last kids rooted p u h c)
 
   descend-levels : (v : ℕ) → v ≤ last → (m n : ℕ) → last < v + m → last < v + n
@@ -215,12 +230,11 @@ module _ (last : ℕ) (kids : ℕ → Kids) (rooted : Rooted last kids) (give : 
   pub descend-meets : Descent last kids give start (descend last kids give start)
   unfolding descend
   descend-meets =
-      record
-      { root = descend-root (suc last)
-      ; edge = λ {p} {u} h c. let b = rooted .below h c in
-        descend-child last p u h c ∙ ap (give u) (descend-levels p h last (suc last) (omega arith) (omega arith))
+      record {
+        root = descend-root (suc last);
+        edge = λ {p} {u} h c. let b = rooted .below h c in
+            descend-child last p u h c ∙ ap (give u) (descend-levels p h last (suc last) (omega arith) (omega arith));
       }
-
 
 module _ (last : ℕ) (kids : ℕ → Kids) (rooted : Rooted last kids) (start : ℕ) where
   -- nothing else meets them: work by steps that give the same has the same values

@@ -1,8 +1,7 @@
 -- Rows, labels and sets are determined: whatever meets their equations is equal to them on every node.
 -- Assumes nothing.
-use mathlib.Core.Bool.{Bool}
-use mathlib.Core.Path.{_≡_, refl, ap, ap₂, sym, _∙_, subst}
-use Prim.Native.Nat.{ℕ, suc, _+_, _≤_, _<_}
+use mathlib.Core.Path.{_≡_, ap, ap₂}
+use Prim.Native.Nat.{ℕ, _≤_, _<_}
 use native.Mathlib.Omega.{arith}
 use lib.Dec.{eqb}
 use Rattle.parsimony.specs.Barred.{plus}
@@ -10,9 +9,9 @@ use Rattle.parsimony.specs.Column.{Column}
 use Rattle.parsimony.specs.Label.{choose, IsLabels, labelFrom}
 use Rattle.parsimony.specs.Least.{TieRule}
 use Rattle.parsimony.specs.NodeSet.{reaches, childSet, IsSets, setsFrom}
-use Rattle.parsimony.specs.Row.{through, up, row, IsRows}
-use Rattle.parsimony.specs.StateSet.{holds, gather}
-use Rattle.parsimony.specs.Test.{both, some}
+use Rattle.parsimony.specs.Row.{through, row, IsRows}
+use Rattle.parsimony.specs.StateSet.{holds}
+use Rattle.parsimony.specs.Test.{both}
 use Rattle.parsimony.specs.Tree.{Rooted}
 use Rattle.parsimony.proofs.RowLaws.{row-rows, rows-unique, up-same}
 use Rattle.parsimony.proofs.StateCountLaws.{gather-same, some-same}

@@ -5,7 +5,7 @@ use Prim.Native.Nat.{ℕ, _+_, _*_, _-_}
 use lib.ListN.{length, getD}
 use Rattle.parsimony.specs.Barred.{barred}
 use Rattle.parsimony.specs.StateSet.{holds}
-use Rattle.parsimony.specs.Table.{Kind, symbol, handed, Node, leaf, inner, kidsAt, nodeAt, tips}
+use Rattle.parsimony.specs.Table.{symbol, handed, Node, leaf, inner, kidsAt, nodeAt, tips}
 use Rattle.parsimony.specs.Test.{pick}
 use Rattle.parsimony.specs.Tree.{Kids}
 
@@ -51,10 +51,10 @@ unfoldable pub columnOf : List ℕ → List ℕ → ℕ → List ℕ → ℕ →
 unfolding costAt cellAt handedAt cellEntry nodeAt tips
 columnOf left right s costs c cells entries j =
     let h = tips handed (nodeAt left right) (length left) in
-    record
-    { last = length left - 1
-    ; kids = kidsAt left right
-    ; states = s
-    ; cost = costAt s costs
-    ; entry = λ v. tipEntry (cellAt c cells j) (handedAt s h entries j) (nodeAt left right v)
+    record {
+      last = length left - 1;
+      kids = kidsAt left right;
+      states = s;
+      cost = costAt s costs;
+      entry = λ v. tipEntry (cellAt c cells j) (handedAt s h entries j) (nodeAt left right v);
     }

@@ -1,10 +1,12 @@
 -- Counting by sets, for unit costs: preliminary sets and the change count.
 -- Assumes nothing.
+use mathlib.Core.List.{List}
 use mathlib.Core.Path.{_≡_}
 use Prim.Native.Nat.{ℕ, _+_, _<_}
 use lib.Dec.{eqb}
-use Rattle.parsimony.specs.Column.{Column}
+use Rattle.parsimony.specs.Column.{cellAt}
 use Rattle.parsimony.specs.StateSet.{common, union}
+use Rattle.parsimony.specs.Table.{Node, leaf, inner, symbol, handed, kidsAt, nodeAt}
 use Rattle.parsimony.specs.Test.{at, pick}
 use Rattle.parsimony.specs.Tree.{Kids, ascend}
 
@@ -40,3 +42,16 @@ counted kids cell v = ascend kids (tipCount cell) joinCounts v
 -- unit costs: 0 on the diagonal and 1 off it, for the states 0 to s-1
 abbrev pub UnitCosts : ℕ → (ℕ → ℕ → ℕ) → Type 0
 UnitCosts s cost = (x y : ℕ) → x < s → y < s → cost x y ≡ pick (eqb x y) 0 1
+
+-- a symbol tip's cell, given each matrix row's. Counting takes no handed tips, and an inner node has no cell; the empty
+-- set stands there and is never read.
+abbrev pub tipCell : (ℕ → ℕ) → Node → ℕ
+tipCell cell (leaf symbol r) = cell r
+tipCell cell (leaf handed k) = 0
+tipCell cell (inner a b) = 0
+
+-- node v's preliminary set and changes in column j of a table with c columns of cells
+unfoldable pub countedAt : List ℕ → List ℕ → ℕ → List ℕ → ℕ → ℕ → Counted
+unfolding counted cellAt nodeAt
+countedAt left right c cells j =
+    counted (kidsAt left right) (λ u. tipCell (cellAt c cells j) (nodeAt left right u))

@@ -1,13 +1,13 @@
 -- The paper's worked examples 1 to 8 as a table: each a tree table, costs, cells and handed entries, with what it claims
 -- of one column.
 -- Assumes nothing.
-use mathlib.Core.Bool.{Bool, true, false}
+use mathlib.Core.Bool.{Bool, true}
 use mathlib.Core.List.{List, [], _∷_}
-use Prim.Native.Nat.{ℕ, zero, suc}
+use Prim.Native.Nat.{ℕ, suc}
 use lib.Dec.{eqb}
 use lib.ListN.{getD, length}
-use Rattle.parsimony.specs.Column.{Column, columnOf, cellAt}
-use Rattle.parsimony.specs.Counting.{counted}
+use Rattle.parsimony.specs.Column.{Column, columnOf}
+use Rattle.parsimony.specs.Counting.{countedAt}
 use Rattle.parsimony.specs.Label.{label, labelFrom}
 use Rattle.parsimony.specs.Least.{lowest}
 use Rattle.parsimony.specs.NodeSet.{sets, setsFrom}
@@ -62,21 +62,18 @@ unfoldable pub columnIn : Example → Column
 unfolding columnOf
 columnIn e = columnOf (e .left) (e .right) (e .s) (e .costs) (e .c) (e .cells) (e .entries) (e .j)
 
--- the test of one claim of an example. In all examples symbol tips stand in the order of their rows, so that a tip's row
--- is its right entry.
+-- the test of one claim of an example
 unfoldable pub claimHolds : Example → Claim → Bool
-unfolding columnIn score row label labelFrom sets setsFrom counted cellAt lists
+unfolding columnIn score row label labelFrom sets setsFrom countedAt lists
 claimHolds e (scores k) = eqb (score (columnIn e)) k
 claimHolds e (rowOf v r) = lists (e .s) (row (columnIn e) v) r
 claimHolds e (setOf v w) = eqb (sets (columnIn e) v) w
 claimHolds e (setsWith w ws) = lists (length (e .left)) (setsFrom (columnIn e) w) ws
 claimHolds e (labels xs) = lists (length (e .left)) (label (columnIn e)) xs
 claimHolds e (labelsWith x xs) = lists (length (e .left)) (labelFrom lowest (columnIn e) x) xs
-claimHolds e (prelimOf v w) =
-    eqb (counted (kidsAt (e .left) (e .right)) (λ u. cellAt (e .c) (e .cells) (e .j) (getD (e .right) u 0)) v .set) w
+claimHolds e (prelimOf v w) = eqb (countedAt (e .left) (e .right) (e .c) (e .cells) (e .j) v .set) w
 claimHolds e (changes k) =
-    eqb (counted (kidsAt (e .left) (e .right)) (λ u. cellAt (e .c) (e .cells) (e .j) (getD (e .right) u 0))
-    (columnIn e .last) .changes) k
+    eqb (countedAt (e .left) (e .right) (e .c) (e .cells) (e .j) (columnIn e .last) .changes) k
 
 -- every claim of the list holds
 unfoldable pub claimsHold : Example → List Claim → Bool
@@ -106,61 +103,61 @@ none = 65535
 -- a is AC, b is AT, c is GT
 abbrev report : ℕ → List Claim → Example
 report j claims =
-    record
-    { left = none ∷ none ∷ 0 ∷ none ∷ 2 ∷ []
-    ; right = 0 ∷ 1 ∷ 1 ∷ 2 ∷ 3 ∷ []
-    ; s = 4
-    ; costs = unit
-    ; c = 2
-    ; cells = 1 ∷ 2 ∷ 1 ∷ 8 ∷ 4 ∷ 8 ∷ []
-    ; entries = []
-    ; j = j
-    ; claims = claims
+    record {
+      left = none ∷ none ∷ 0 ∷ none ∷ 2 ∷ [];
+      right = 0 ∷ 1 ∷ 1 ∷ 2 ∷ 3 ∷ [];
+      s = 4;
+      costs = unit;
+      c = 2;
+      cells = 1 ∷ 2 ∷ 1 ∷ 8 ∷ 4 ∷ 8 ∷ [];
+      entries = [];
+      j = j;
+      claims = claims;
     }
 
 -- four tips on ((1,2),(3,4)); in one column
 abbrev pairs : List ℕ → List ℕ → List Claim → Example
 pairs costs cells claims =
-    record
-    { left = none ∷ none ∷ 0 ∷ none ∷ none ∷ 3 ∷ 2 ∷ []
-    ; right = 0 ∷ 1 ∷ 1 ∷ 2 ∷ 3 ∷ 4 ∷ 5 ∷ []
-    ; s = 4
-    ; costs = costs
-    ; c = 1
-    ; cells = cells
-    ; entries = []
-    ; j = 0
-    ; claims = claims
+    record {
+      left = none ∷ none ∷ 0 ∷ none ∷ none ∷ 3 ∷ 2 ∷ [];
+      right = 0 ∷ 1 ∷ 1 ∷ 2 ∷ 3 ∷ 4 ∷ 5 ∷ [];
+      s = 4;
+      costs = costs;
+      c = 1;
+      cells = cells;
+      entries = [];
+      j = 0;
+      claims = claims;
     }
 
 -- two tips under a root in one column
 abbrev cherry : ℕ → List ℕ → List ℕ → List Claim → Example
 cherry s costs cells claims =
-    record
-    { left = none ∷ none ∷ 0 ∷ []
-    ; right = 0 ∷ 1 ∷ 1 ∷ []
-    ; s = s
-    ; costs = costs
-    ; c = 1
-    ; cells = cells
-    ; entries = []
-    ; j = 0
-    ; claims = claims
+    record {
+      left = none ∷ none ∷ 0 ∷ [];
+      right = 0 ∷ 1 ∷ 1 ∷ [];
+      s = s;
+      costs = costs;
+      c = 1;
+      cells = cells;
+      entries = [];
+      j = 0;
+      claims = claims;
     }
 
 -- 1. One tip, cell {1,3}: score 0, set {1,3}, label 1.
 abbrev example1 : Example
 example1 =
-    record
-    { left = none ∷ []
-    ; right = 0 ∷ []
-    ; s = 4
-    ; costs = unit
-    ; c = 1
-    ; cells = 10 ∷ []
-    ; entries = []
-    ; j = 0
-    ; claims = scores 0 ∷ setOf 0 10 ∷ labels (1 ∷ []) ∷ []
+    record {
+      left = none ∷ [];
+      right = 0 ∷ [];
+      s = 4;
+      costs = unit;
+      c = 1;
+      cells = 10 ∷ [];
+      entries = [];
+      j = 0;
+      claims = scores 0 ∷ setOf 0 10 ∷ labels (1 ∷ []) ∷ [];
     }
 
 -- 2. The two columns of the report: scores 1 and 1, labels AAAGA and CTTTT; four and five nodes have a set of one state.
@@ -193,21 +190,21 @@ example2b =
 -- 3. (((c,g),a),b); with C, G, A, A: score 2. The inner node over c and g has preliminary set CG, final set ACG, label A.
 abbrev example3 : Example
 example3 =
-    record
-    { left = none ∷ none ∷ 0 ∷ none ∷ 2 ∷ none ∷ 4 ∷ []
-    ; right = 0 ∷ 1 ∷ 1 ∷ 2 ∷ 3 ∷ 3 ∷ 5 ∷ []
-    ; s = 4
-    ; costs = unit
-    ; c = 1
-    ; cells = 2 ∷ 4 ∷ 1 ∷ 1 ∷ []
-    ; entries = []
-    ; j = 0
-    ; claims = scores 2
-      ∷ prelimOf 2 6
-      ∷ setOf 2 7
-      ∷ labels (1 ∷ 2 ∷ 0 ∷ 0 ∷ 0 ∷ 0 ∷ 0 ∷ [])
-      ∷ changes 2
-      ∷ []
+    record {
+      left = none ∷ none ∷ 0 ∷ none ∷ 2 ∷ none ∷ 4 ∷ [];
+      right = 0 ∷ 1 ∷ 1 ∷ 2 ∷ 3 ∷ 3 ∷ 5 ∷ [];
+      s = 4;
+      costs = unit;
+      c = 1;
+      cells = 2 ∷ 4 ∷ 1 ∷ 1 ∷ [];
+      entries = [];
+      j = 0;
+      claims = scores 2
+          ∷ prelimOf 2 6
+          ∷ setOf 2 7
+          ∷ labels (1 ∷ 2 ∷ 0 ∷ 0 ∷ 0 ∷ 0 ∷ 0 ∷ [])
+          ∷ changes 2
+          ∷ [];
     }
 
 -- 4. Two tips 0 and 1, cost(0,1)=1, cost(1,0)=3: score 1, root set {0}.
@@ -243,16 +240,16 @@ example8part =
 
 abbrev example8rest : Example
 example8rest =
-    record
-    { left = none ∷ none ∷ 0 ∷ []
-    ; right = 32768 ∷ 0 ∷ 1 ∷ []
-    ; s = 4
-    ; costs = unit
-    ; c = 1
-    ; cells = 8 ∷ []
-    ; entries = 2 ∷ 1 ∷ 2 ∷ 1 ∷ []
-    ; j = 0
-    ; claims = scores 1 ∷ labels (3 ∷ 3 ∷ 3 ∷ []) ∷ setOf 0 8 ∷ setOf 2 8 ∷ []
+    record {
+      left = none ∷ none ∷ 0 ∷ [];
+      right = 32768 ∷ 0 ∷ 1 ∷ [];
+      s = 4;
+      costs = unit;
+      c = 1;
+      cells = 8 ∷ [];
+      entries = 2 ∷ 1 ∷ 2 ∷ 1 ∷ [];
+      j = 0;
+      claims = scores 1 ∷ labels (3 ∷ 3 ∷ 3 ∷ []) ∷ setOf 0 8 ∷ setOf 2 8 ∷ [];
     }
 
 -- the table of examples

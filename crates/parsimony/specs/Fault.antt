@@ -2,7 +2,7 @@
 -- Assumes nothing.
 use mathlib.Core.Path.{_≡_}
 use Prim.Native.Nat.{ℕ, suc, _<_, _≤_}
-use Rattle.parsimony.specs.Table.{Kind, Node, leaf, inner, tips, rowUses, childUses}
+use Rattle.parsimony.specs.Table.{Node, leaf, inner, tips, rowUses, childUses}
 
 -- An inner node keeps its rules if its children are different, are below it, and are named by no lower node; a tip if
 -- its row's number is below the number of tips of its kind and no lower node has that row.

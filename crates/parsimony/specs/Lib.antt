@@ -16,4 +16,5 @@ pub mod Label
 pub mod NodeSet
 pub mod Counting
 pub mod Sound
+pub mod TipKinds
 pub mod Examples

@@ -2,12 +2,12 @@
 -- Assumes nothing.
 use mathlib.Core.Path.{_≡_}
 use mathlib.Core.List.{List}
-use Prim.Native.Nat.{ℕ, suc, _+_, _<_, _≤_}
+use Prim.Native.Nat.{ℕ, _<_, _≤_}
 use Rattle.parsimony.specs.Barred.{plus}
 use Rattle.parsimony.specs.Column.{Column, columnOf}
 use Rattle.parsimony.specs.Least.{least}
 use Rattle.parsimony.specs.Sum.{sum}
-use Rattle.parsimony.specs.Tree.{Kids, tip, two, merge, ascend}
+use Rattle.parsimony.specs.Tree.{merge, ascend}
 
 -- the cost of a child in state y under a parent in state x, given the child's row: the change, and the child's entry
 abbrev pub through : Column → (ℕ → ℕ) → ℕ → ℕ → ℕ

@@ -6,7 +6,7 @@ use Prim.Native.Nat.{ℕ, _<_, _≤_}
 use Rattle.parsimony.specs.Allowed.{mostHanded}
 use Rattle.parsimony.specs.Barred.{barred}
 use Rattle.parsimony.specs.Column.{Column}
-use Rattle.parsimony.specs.Tree.{Kids, tip, Rooted}
+use Rattle.parsimony.specs.Tree.{tip, Rooted}
 
 -- A column is sound, with tips' entries up to most: its tree is rooted and has at most 1,023 nodes; there is a state; a
 -- cost is at most 999; a tip's entry is barred or at most most, and not all entries of a tip are barred.

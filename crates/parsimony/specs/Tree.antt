@@ -66,9 +66,9 @@ unfoldable pub descendIn : ℕ → (ℕ → Kids) → (ℕ → ℕ → ℕ) → 
 unfolding parent
 descendIn last kids give start zero v = start
 descendIn last kids give start (suc levels) v =
-    elim (eqb v last)
-    [ true ↦ start
-    | false ↦ give v (descendIn last kids give start levels (parent kids (suc last) v))
+    elim (eqb v last) [
+      | true ↦ start
+      | false ↦ give v (descendIn last kids give start levels (parent kids (suc last) v))
     ]
 
 -- Work from the root down: the root, node last, has the value start, and a child u of a node with value x has give u x.
