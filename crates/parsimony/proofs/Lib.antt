@@ -1,4 +1,6 @@
--- Laws by subject, then the theorems that answer the paper's demands.
+-- The definitions on small inputs, laws by subject, and the theorems that answer the paper's demands.
+pub mod Cases
+pub mod Examples
 pub mod Order
 pub mod Sums
 pub mod LeastLaws
@@ -21,5 +23,3 @@ pub mod LabellingLaws
 pub mod ColumnLaws
 pub mod Fits
 pub mod Demand2
-pub mod Examples
-pub mod Cases

@@ -1,0 +1,1 @@
+// The rules of costs, cells and handed rows.
