@@ -1,5 +1,6 @@
 -- What a reader must believe: the definitions of parsimony scoring, one noun a file.
 -- Assumes nothing.
+pub mod Tells
 pub mod Test
 pub mod Sum
 pub mod Least

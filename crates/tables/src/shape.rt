@@ -21,6 +21,7 @@ pub enum Tree {
 }
 
 const NO_CHILD: u16 = 65535;
+
 const FIRST_HANDED: u16 = 32768;
 
 // The two lists have one length, odd and at most 1,023.
