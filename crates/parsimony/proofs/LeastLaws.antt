@@ -14,15 +14,21 @@ low-suc : (f : ℕ → ℕ) (n : ℕ) → low f (suc n) ≡ pick (ltb (f n) (f (
 unfolding low
 low-suc f n = refl
 
-low-new : (f : ℕ → ℕ) (n : ℕ) → f n < f (low f n) → low f (suc n) ≡ n
+-- a lower value at n is the new lowest place
+pub low-new : (f : ℕ → ℕ) (n : ℕ) → f n < f (low f n) → low f (suc n) ≡ n
 low-new f n h = low-suc f n ∙ pick-true n (low f n) (lt-ltb (f n) (f (low f n)) h)
 
-low-old : (f : ℕ → ℕ) (n : ℕ) → f (low f n) ≤ f n → low f (suc n) ≡ low f n
+-- any other leaves the old one
+pub low-old : (f : ℕ → ℕ) (n : ℕ) → f (low f n) ≤ f n → low f (suc n) ≡ low f n
 low-old f n h = low-suc f n ∙ pick-false n (low f n) (le-ltb (f n) (f (low f n)) h)
 
 low-zero : (f : ℕ → ℕ) → low f 0 ≡ 0
 unfolding low
 low-zero f = refl
+
+-- of one place it is that one
+pub low-one : (f : ℕ → ℕ) → low f 1 ≡ 0
+low-one f = low-old f 0 (subst (λ m. f m ≤ f 0) (sym (low-zero f)) (omega arith)) ∙ low-zero f
 
 -- the lowest place is below the bound
 pub low-within : (f : ℕ → ℕ) (s : ℕ) → 0 < s → low f s < s

@@ -1,0 +1,78 @@
+-- `handed_row` meets its contract. The loop's invariant: the entries of the states below x are written.
+-- The measure is what is left of the states. Assumes nothing.
+use mathlib.Core.Path.{subst, _≡_, refl}
+use Prim.Native.Nat.{_-_, _≤_}
+use native.Mathlib.Omega.{arith}
+use borrow.Author.Needs.{needs}
+use Rattle.steps.proofs.WroteLaws.{wrote-none, wrote-more}
+use Rattle.steps.proofs.handed_row.Statement.{statement}
+use Rattle.steps.specs.Lane.{entryAt}
+use Rattle.steps.specs.Wrote.{Wrote}
+use Rattle.steps.proofs.handed_row.Tie as tie
+
+abbrev Inv-loop : tie.InvT-loop
+Inv-loop handed from rows₀ at s x₀ rows x = (x ≤ s) × Wrote at x (entryAt handed from) rows₀ rows
+
+abbrev μ-loop : tie.MeasureT-loop
+μ-loop handed from rows₀ at s x₀ rows x = s - x
+
+loop-holds : tie.Need-loop-holds Inv-loop μ-loop
+loop-holds c = (omega arith, wrote-none (c .args .at) (entryAt (c .args .handed .now) (c .args .from)) (c .args .rows .now))
+
+add-rows : tie.Need-add-rows Inv-loop μ-loop
+add-rows c = search needs
+
+mul-rows : tie.Need-mul-rows Inv-loop μ-loop
+mul-rows c = search needs
+
+shared-slice-read-rows : tie.Need-shared-slice-read-rows Inv-loop μ-loop
+shared-slice-read-rows c = search needs
+
+add-rows-2 : tie.Need-add-rows-2 Inv-loop μ-loop
+add-rows-2 c = search needs
+
+mul-rows-2 : tie.Need-mul-rows-2 Inv-loop μ-loop
+mul-rows-2 c = search needs
+
+slice-write-rows : tie.Need-slice-write-rows Inv-loop μ-loop
+slice-write-rows c = search needs
+
+add-x : tie.Need-add-x Inv-loop μ-loop
+add-x c = search needs
+
+loop-less : tie.Need-loop-less Inv-loop μ-loop
+loop-less c = search needs
+
+loop-again : tie.Need-loop-again Inv-loop μ-loop
+loop-again c =
+    let inv = c .before .before .loop .inv in
+    let long = inv .1 .long in
+    (omega arith, wrote-more _ _ _ (entryAt (c .before .before .before .args .handed .now) (c .before .before .before .args .from)) _ _ (inv .1) (omega arith) refl)
+
+same-length : tie.Need-same-length Inv-loop μ-loop
+same-length c = search needs
+
+returns : tie.Need-returns Inv-loop μ-loop
+returns c =
+    let inv = c .before .loop .inv in
+    let done : c .before .loop .x ≡ c .before .before .args .s = omega arith in
+    subst (λ z. Wrote (c .before .before .args .at) z (entryAt (c .before .before .args .handed .now) (c .before .before .args .from)) (c .before .before .args .rows .now) (c .before .loop .rows)) done (inv .1)
+
+pub handed-row-spec : {M : Type 1} → statement M
+handed-row-spec =
+    tie.close
+    (tie.spec
+    Inv-loop
+    μ-loop
+    loop-holds
+    add-rows
+    mul-rows
+    shared-slice-read-rows
+    add-rows-2
+    mul-rows-2
+    slice-write-rows
+    add-x
+    loop-less
+    loop-again
+    same-length
+    returns)

@@ -1,0 +1,2 @@
+-- Laws of the loops of the tests.
+pub mod RuleSteps
