@@ -1,2 +1,5 @@
 -- Laws of the loops of the tests.
+pub mod TellsLaws
 pub mod RuleSteps
+pub mod ShapeSteps
+pub mod MarkLaws

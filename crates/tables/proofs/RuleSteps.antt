@@ -12,7 +12,7 @@ use lib.Pow.{pow-pos, pow-mono}
 use borrow.Author.Tests.{not-true, not-false}
 use Rattle.parsimony.specs.Allowed.{CostRules, CellRules, HandedRules, mostHanded}
 use Rattle.parsimony.specs.Barred.{barred}
-use Rattle.tables.specs.Tells.{Told, Tells}
+use Rattle.parsimony.specs.Tells.{Told, Tells}
 
 -- not a no: the statement holds
 pub told-yes : {P : Type 0} {b : Bool} → Tells P b → not b ≡ false → P

@@ -1,5 +1,5 @@
 -- What the tests of tables say, over the definitions of `parsimony`.
 -- Assumes nothing.
-pub mod Tells
 pub mod NodeOf
 pub mod Found
+pub mod Marks

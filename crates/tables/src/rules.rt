@@ -9,7 +9,7 @@ ghost use Rattle.parsimony.specs.Barred.{barred};
 ghost use Rattle.parsimony.specs.Column.{costAt};
 ghost use Rattle.parsimony.specs.Counting.{UnitCosts};
 ghost use Rattle.parsimony.specs.Test.{pick};
-ghost use Rattle.tables.specs.Tells.{Tells};
+ghost use Rattle.parsimony.specs.Tells.{Tells};
 
 const MOST_STATES: usize = 16;
 

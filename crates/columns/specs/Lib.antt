@@ -1,0 +1,6 @@
+-- What the work on one column promises, over the definitions of `parsimony`.
+-- Assumes nothing.
+pub mod Ready
+pub mod RowRoom
+pub mod Down
+pub mod Prelims

@@ -1,0 +1,118 @@
+-- The steps of a walk over the nodes of a table: what a node is, and the counts over the nodes at one node more.
+-- Assumes nothing.
+use mathlib.Core.List.{List}
+use mathlib.Core.Path.{_≡_, ap, sym, _∙_}
+use Prim.Native.Nat.{ℕ, _+_, _-_, _*_, _≤_, _<_}
+use native.Mathlib.Numerals.{add-one}
+use native.Mathlib.Omega.{arith}
+use borrow.Author.Tests.{eq-eqb, ne-eqb, lt-ltb, le-ltb}
+use lib.ListN.{getD}
+use Rattle.parsimony.specs.Sum.{sum}
+use Rattle.parsimony.specs.Table.{
+  Kind,
+  symbol,
+  handed,
+  Node,
+  leaf,
+  inner,
+  leafAt,
+  nodeAt,
+  kidsOf,
+  isTip,
+  names,
+  tips,
+  rowUses,
+  childUses,
+}
+use Rattle.parsimony.specs.Test.{at}
+use Rattle.parsimony.specs.Tree.{each, uses}
+use Rattle.parsimony.proofs.Order.{pick-true, pick-false}
+use Rattle.parsimony.proofs.Sums.{sum-suc, sum-zero, sum-le, sum-scale}
+use Rattle.parsimony.proofs.TipLaws.{sum-ones, at-le, names-le}
+
+module _ (left right : List ℕ) (v : ℕ) where
+  -- a tip whose right entry is below 32,768 is a symbol tip with that row
+  pub node-symbol : getD left v 0 ≡ 65535 → getD right v 0 < 32768 → leaf symbol (getD right v 0) ≡ nodeAt left right v
+  unfolding nodeAt leafAt
+  node-symbol h i = sym (pick-true _ _ (eq-eqb _ _ h) ∙ pick-true _ _ (lt-ltb _ _ i))
+
+  -- any other tip is a handed tip
+  pub node-handed : getD left v 0 ≡ 65535 → 32768 ≤ getD right v 0
+      → leaf handed (getD right v 0 - 32768) ≡ nodeAt left right v
+  unfolding nodeAt leafAt
+  node-handed h i = sym (pick-true _ _ (eq-eqb _ _ h) ∙ pick-false _ _ (le-ltb _ _ i))
+
+  -- a node whose left entry is not 65,535 is inner
+  pub node-inner : (getD left v 0 ≡ 65535 → ⊥) → inner (getD left v 0) (getD right v 0) ≡ nodeAt left right v
+  unfolding nodeAt
+  node-inner h = sym (pick-false _ _ (ne-eqb _ _ h))
+
+-- a sum over one number more
+sum-next : (f : ℕ → ℕ) (v : ℕ) → sum f (v + 1) ≡ sum f v + f v
+sum-next f v = rw add-one (sum-suc f v)
+
+-- a sum whose terms are at most m
+sum-most : (m : ℕ) (f : ℕ → ℕ) (n : ℕ) → ((i : ℕ) → f i ≤ m) → sum f n ≤ m * n
+sum-most m f n h =
+    let bound = sum-le f (λ i. m * 1) n (λ i k. let here = h i in omega arith) in
+    let all : sum (λ i. m * 1) n ≡ m * n = sum-scale m (λ i. 1) n ∙ ap (λ x. m * x) (sum-ones n) in
+    omega arith
+
+-- a node is a tip of a kind at most once, and names a child at most twice
+tip-le : (k : Kind) (x : Node) → isTip k x ≤ 1
+tip-le symbol (leaf symbol r) = omega arith
+tip-le symbol (leaf handed r) = omega arith
+tip-le handed (leaf symbol r) = omega arith
+tip-le handed (leaf handed r) = omega arith
+tip-le k (inner a b) = omega arith
+
+kids-le : (u : ℕ) (x : Node) → each (at u 1) (kidsOf x) ≤ 2
+kids-le u (leaf k r) = omega arith
+kids-le u (inner a b) = let la = at-le u a in let lb = at-le u b in omega arith
+
+module _ (node : ℕ → Node) where
+  pub tips-none : (k : Kind) → tips k node 0 ≡ 0
+  unfolding tips
+  tips-none k = sum-zero (λ p. isTip k (node p))
+
+  pub tips-next : (k : Kind) (v : ℕ) → tips k node (v + 1) ≡ tips k node v + isTip k (node v)
+  unfolding tips
+  tips-next k v = sum-next (λ p. isTip k (node p)) v
+
+  -- no more tips than nodes
+  pub tips-most : (k : Kind) (n : ℕ) → tips k node n ≤ n
+  unfolding tips
+  tips-most k n = let bound = sum-most 1 (λ p. isTip k (node p)) n (λ p. tip-le k (node p)) in omega arith
+
+  -- a count of the tips goes on with one node more, and is at most the number of nodes counted
+  pub tips-step : (k : Kind) (v count r : ℕ) (x : Node) → x ≡ node v → count ≡ tips k node v → r ≡ isTip k x
+      → (count + r ≡ tips k node (v + 1)) × (count + r ≤ v + 1)
+  tips-step k v count r x e c i =
+      let here : isTip k x ≡ isTip k (node v) = ap (isTip k) e in
+      let next = tips-next k v in
+      let most = tips-most k (v + 1) in
+      (omega arith, omega arith)
+
+  pub rows-none : (k : Kind) (r : ℕ) → rowUses k node 0 r ≡ 0
+  unfolding rowUses
+  rows-none k r = sum-zero (λ p. names k r (node p))
+
+  pub rows-next : (k : Kind) (v r : ℕ) → rowUses k node (v + 1) r ≡ rowUses k node v r + names k r (node v)
+  unfolding rowUses
+  rows-next k v r = sum-next (λ p. names k r (node p)) v
+
+  pub rows-most : (k : Kind) (n r : ℕ) → rowUses k node n r ≤ n
+  unfolding rowUses
+  rows-most k n r = let bound = sum-most 1 (λ p. names k r (node p)) n (λ p. names-le k r (node p)) in omega arith
+
+  pub uses-none : (u : ℕ) → childUses node 0 u ≡ 0
+  unfolding uses
+  uses-none u = sum-zero (λ p. each (at u 1) (kidsOf (node p)))
+
+  pub uses-next : (v u : ℕ) → childUses node (v + 1) u ≡ childUses node v u + each (at u 1) (kidsOf (node v))
+  unfolding uses
+  uses-next v u = sum-next (λ p. each (at u 1) (kidsOf (node p))) v
+
+  pub uses-most : (n u : ℕ) → childUses node n u ≤ 2 * n
+  unfolding uses
+  uses-most n u = sum-most 2 (λ p. each (at u 1) (kidsOf (node p))) n (λ p. kids-le u (node p))
