@@ -23,10 +23,7 @@ pub fn fill_rows(
     requires { ⌜ Ready (now left) (now right) s (now costs) c (now cells) (now handed) j ⌝ }
     requires { ⌜ h ≡ handedTips (now left) (now right) ⌝ }
     requires { ⌜ length (now left) * s ≤ length (now rows) ⌝ }
-    ensures {
-        λ r. ⌜ RowRoom
+    ensures { λ r. ⌜ RowRoom
         (row (columnOf (now (left .entry)) (now (right .entry)) s (now (costs .entry)) c (now (cells .entry)) (now (handed .entry)) j))
-        (length (now (left .entry))) s (now (rows .entry)) (now (rows .exit)) ⌝
-    }
-{
-}
+        (length (now (left .entry))) s (now (rows .entry)) (now (rows .exit)) ⌝ }
+{}

@@ -2,6 +2,7 @@
 pub mod Cases
 pub mod Examples
 pub mod Order
+pub mod TellsLaws
 pub mod Sums
 pub mod LeastLaws
 pub mod TreeLaws

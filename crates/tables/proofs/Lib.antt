@@ -1,5 +1,4 @@
 -- Laws of the loops of the tests.
-pub mod TellsLaws
 pub mod RuleSteps
 pub mod ShapeSteps
 pub mod MarkLaws

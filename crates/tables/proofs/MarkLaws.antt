@@ -3,16 +3,16 @@
 use mathlib.Core.Bool.{Bool, true, false}
 use mathlib.Core.List.{List}
 use mathlib.Core.Path.{_≡_, refl, sym, _∙_, subst}
-use Prim.Native.Nat.{ℕ, suc, _+_, _*_, _≤_, _<_}
+use Prim.Native.Nat.{ℕ, suc, _+_, _≤_, _<_}
 use native.Mathlib.Nat.{le-antisymm}
 use native.Mathlib.Omega.{arith}
 use lib.ListN.{length, getD, set, length-set, replicate, length-replicate, getD-replicate}
 use lib.Seq.{getD-set-same, getD-set-other}
-use Rattle.parsimony.specs.Fault.{KeepsEntries, Keeps, LowestFault}
+use Rattle.parsimony.specs.Fault.{KeepsEntries, Keeps}
 use Rattle.parsimony.specs.Table.{Kind, symbol, handed, Node, leaf, inner, kidsOf, names, rowUses, childUses, tips}
 use Rattle.parsimony.specs.Test.{at}
 use Rattle.parsimony.specs.Tree.{each}
-use Rattle.parsimony.proofs.Order.{by-lt, by-eq, at-same, at-other}
+use Rattle.parsimony.proofs.Order.{by-eq, at-same, at-other}
 use Rattle.parsimony.proofs.TipLaws.{at-le}
 use Rattle.tables.specs.Marks.{Counted, Raised, Most, forKind, MarksKeep, Surveyed, Marked, VisitedBy, Visited}
 use Rattle.tables.proofs.ShapeSteps.{
@@ -35,13 +35,13 @@ raised-set marks u =
     record {
       size = length-set marks u (getD marks u 0 + 1);
       more = λ w i. by-eq w u
-      (λ e. subst (λ k. getD (set marks u (getD marks u 0 + 1)) k 0 ≡ getD marks k 0 + at k 1 u) (sym e)
-      (let here = at-same u 1 u refl in
-      let stored = getD-set-same marks u (getD marks u 0 + 1) 0 (subst (λ k. k < length marks) e i) in
-      omega arith))
-      (λ ne. let none = at-other w 1 u ne in
-      let kept = getD-set-other marks u w (getD marks u 0 + 1) 0 ne in
-      omega arith);
+          (λ e. subst (λ k. getD (set marks u (getD marks u 0 + 1)) k 0 ≡ getD marks k 0 + at k 1 u) (sym e)
+          (let here = at-same u 1 u refl in
+          let stored = getD-set-same marks u (getD marks u 0 + 1) 0 (subst (λ k. k < length marks) e i) in
+          omega arith))
+          (λ ne. let none = at-other w 1 u ne in
+          let kept = getD-set-other marks u w (getD marks u 0 + 1) 0 ne in
+          omega arith);
     }
 
 -- no use more of a number that has no entry
@@ -62,10 +62,10 @@ pub raised-most : (m u : ℕ) (marks out : List ℕ) → Most m marks → Raised
 raised-most m u marks out h r =
     record {
       low = λ w i. let j : w < length marks = subst (λ k. w < k) (r .size) i in
-      let one = r .more w j in
-      let few = at-le w u in
-      let low = h .low w j in
-      omega arith;
+          let one = r .more w j in
+          let few = at-le w u in
+          let low = h .low w j in
+          omega arith;
     }
 
 -- marks with no entry above m' have none above a greater m
@@ -84,9 +84,9 @@ counted-raised f g h marks out c r e =
     record {
       size = r .size ∙ c .size;
       entry = λ w i. let more = r .more w (subst (λ k. w < k) (sym (c .size)) i) in
-      let same = c .entry w i in
-      let sum = e w in
-      omega arith;
+          let same = c .entry w i in
+          let sum = e w in
+          omega arith;
     }
 
 -- the same counts, by other names
@@ -120,8 +120,8 @@ marked-none node seen rows given a b c =
     record {
       children = counted-same _ _ seen a (uses-none node);
       kinds = by-kind (λ k. Counted (rowUses k node 0) (forKind k rows given))
-      (counted-same _ _ rows b (rows-none node symbol))
-      (counted-same _ _ given c (rows-none node handed));
+          (counted-same _ _ rows b (rows-none node symbol))
+          (counted-same _ _ given c (rows-none node handed));
     }
 
 module _ (node : ℕ → Node) (v : ℕ) (x : Node) (here : x ≡ node v) where
@@ -148,8 +148,8 @@ module _ (node : ℕ → Node) (v : ℕ) (x : Node) (here : x ≡ node v) where
       record {
         children = children-next _ _ (m .children) a;
         kinds = by-kind (λ k. Counted (rowUses k node (v + 1)) (forKind k rows' given'))
-        (rows-marked symbol rows rows' (m .kinds symbol) b)
-        (rows-marked handed given given' (m .kinds handed) c);
+            (rows-marked symbol rows rows' (m .kinds symbol) b)
+            (rows-marked handed given given' (m .kinds handed) c);
       }
 
 -- what a visit of a node tells
@@ -162,7 +162,7 @@ pub visited-no : {n : ℕ} {node : ℕ → Node} {v : ℕ} {seen rows given : Li
 visited-no {n} {node} {v} {seen} {rows} {given} h e = subst (VisitedBy n node v seen rows given) e (h .visited)
 
 module _ {n : ℕ} {node : ℕ → Node} {t h : ℕ} {used : List ℕ} (all : Surveyed n node t h used)
-  {v : ℕ} {seen rows given : List ℕ} (marked : Marked node v seen rows given) (low : v < n) where
+    {v : ℕ} {seen rows given : List ℕ} (marked : Marked node v seen rows given) (low : v < n) where
   -- the marks have an entry for each node and row that the rules allow
   pub marks-room : (v ≤ length seen) × (t ≤ length rows) × (h ≤ length given)
   marks-room =
@@ -212,9 +212,9 @@ module _ {n : ℕ} {node : ℕ → Node} {t h : ℕ} {used : List ℕ} (all : Su
       record {
         entries = subst (KeepsEntries n node v) e (marks-entries x k);
         used = λ i. let cap = all .most in
-        let same = all .children .entry v (omega arith) in
-        let some = u i in
-        omega arith;
+            let same = all .children .entry v (omega arith) in
+            let some = u i in
+            omega arith;
       }
 
   -- a node that keeps the rules does so by the marks

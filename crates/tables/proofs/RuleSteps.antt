@@ -1,31 +1,18 @@
--- What a yes or no tells, of one statement and of all numbers below a bound; a bound of powers; and how the tests of the
--- entries add up to the rules of costs, cells and handed rows.
+-- What a yes or no tells of all numbers below a bound; a bound of powers; and how the tests of the entries add up to the
+-- rules of costs, cells and handed rows.
 -- Assumes nothing.
-use mathlib.Core.Bool.{Bool, true, false, not}
+use mathlib.Core.Bool.{Bool, true, false}
 use mathlib.Core.List.{List}
 use mathlib.Core.Logic.{_⊎_}
-use mathlib.Core.Path.{_≡_, subst}
+use mathlib.Core.Path.{_≡_}
 use Prim.Native.Nat.{ℕ, _+_, _*_, _^_, _≤_, _<_}
 use native.Mathlib.Omega.{arith}
 use lib.ListN.{length, getD}
 use lib.Pow.{pow-pos, pow-mono}
-use borrow.Author.Tests.{not-true, not-false}
 use Rattle.parsimony.specs.Allowed.{CostRules, CellRules, HandedRules, mostHanded}
 use Rattle.parsimony.specs.Barred.{barred}
-use Rattle.parsimony.specs.Tells.{Told, Tells}
-
--- not a no: the statement holds
-pub told-yes : {P : Type 0} {b : Bool} → Tells P b → not b ≡ false → P
-told-yes {P} {b} t e = subst (Told P) (not-false b e) (t .told)
-
--- a no: it does not
-pub told-no : {P : Type 0} {b : Bool} → Tells P b → not b ≡ true → P → ⊥
-told-no {P} {b} t e = subst (Told P) (not-true b e) (t .told)
-
--- what tells of P tells of Q, where each follows from the other
-pub tells-same : {P Q : Type 0} {b : Bool} → (P → Q) → (Q → P) → Tells P b → Tells Q b
-tells-same {b = true} f g t = record { told = f (t .told) }
-tells-same {b = false} f g t = record { told = λ q. t .told (g q) }
+use Rattle.parsimony.specs.Tells.{Tells}
+use Rattle.parsimony.proofs.TellsLaws.{tells-same}
 
 -- no: a number below n has not P
 pub all-no : (P : ℕ → Type 0) {n i : ℕ} → i < n → (P i → ⊥) → Tells ((k : ℕ) → k < n → P k) false

@@ -24,7 +24,9 @@ pub enum Tree {
 }
 
 const NO_CHILD: u16 = 65535;
+
 const FIRST_HANDED: u16 = 32768;
+
 const MOST_NODES: usize = 1023;
 
 // The two lists have one length, odd and at most 1,023.
@@ -68,12 +70,8 @@ fn tip_of(node: Node, handed: bool) -> usize
     ensures { λ r. ⌜ r ≡ isTip (kindOf handed) (nodeOf node) ⌝ }
 {
     match node {
-        Node::Symbol(_) => {
-            if handed { 0 } else { 1 }
-        }
-        Node::Handed(_) => {
-            if handed { 1 } else { 0 }
-        }
+        Node::Symbol(_) => { if handed { 0 } else { 1 } }
+        Node::Handed(_) => { if handed { 1 } else { 0 } }
         Node::Inner(_, _) => 0,
     }
 }
@@ -188,7 +186,15 @@ fn kids_free(a: usize, b: usize, v: usize, seen: &[u16]) -> bool
 }
 
 // The entries of node v keep their rules.
-fn keeps_entries(node: Node, v: usize, t: usize, h: usize, seen: &[u16], rows: &[u16], given: &[u16]) -> bool
+fn keeps_entries(
+    node: Node,
+    v: usize,
+    t: usize,
+    h: usize,
+    seen: &[u16],
+    rows: &[u16],
+    given: &[u16],
+) -> bool
     requires { ⌜ (v ≤ length (now seen)) × (t ≤ length (now rows)) × (h ≤ length (now given)) ⌝ }
     ensures { λ r. ⌜ Tells (MarksKeep v t h (now (seen .entry)) (now (rows .entry)) (now (given .entry)) (nodeOf node)) r ⌝ }
 {

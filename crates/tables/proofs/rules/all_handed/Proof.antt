@@ -8,7 +8,8 @@ use borrow.Author.Count.{below-none, below-more}
 use borrow.Author.Needs.{needs}
 use Rattle.parsimony.specs.Allowed.{mostHanded}
 use Rattle.parsimony.specs.Barred.{barred}
-use Rattle.tables.proofs.RuleSteps.{told-yes, told-no, all-no, all-yes}
+use Rattle.parsimony.proofs.TellsLaws.{unless-yes, unless-no}
+use Rattle.tables.proofs.RuleSteps.{all-no, all-yes}
 use Rattle.tables.proofs.rules.all_handed.Statement.{statement}
 use Rattle.tables.proofs.rules.all_handed.Tie as tie
 
@@ -33,7 +34,7 @@ handed-entry-requires c κs = search needs
 returns : tie.Need-returns Inv-loop μ-loop
 returns c =
     all-no _ (c .before .before .before .loop-test .taken)
-    (told-no (c .before .handed-entry .ensures) (c .if1 .taken))
+    (unless-no (c .before .handed-entry .ensures) (c .if1 .taken))
 
 add-i : tie.Need-add-i Inv-loop μ-loop
 add-i c = search needs
@@ -44,7 +45,7 @@ loop-less c = search needs
 loop-again : tie.Need-loop-again Inv-loop μ-loop
 loop-again c =
     below-more _ _ (c .before .before .before .before .loop .inv)
-    (told-yes (c .before .handed-entry .ensures) (c .if1 .left))
+    (unless-yes (c .before .handed-entry .ensures) (c .if1 .left))
 
 returns-2 : tie.Need-returns-2 Inv-loop μ-loop
 returns-2 c = all-yes _ (c .loop-test .left) (c .before .loop .inv)

@@ -3,7 +3,8 @@
 use native.Mathlib.Nat.{mul-le-mul}
 use native.Mathlib.Omega.{arith}
 use borrow.Author.Needs.{needs}
-use Rattle.tables.proofs.RuleSteps.{told-yes, told-no, costs-tell}
+use Rattle.parsimony.proofs.TellsLaws.{unless-yes, unless-no}
+use Rattle.tables.proofs.RuleSteps.{costs-tell}
 use Rattle.tables.proofs.rules.costs_fit.Statement.{statement}
 use Rattle.tables.proofs.rules.costs_fit.Tie as tie
 
@@ -25,7 +26,7 @@ all-within-requires c κs = search needs
 returns-4 : tie.Need-returns-4
 returns-4 c =
     record {
-      told = λ rules. told-no (c .before .all-within .ensures) (c .if4 .taken)
+      told = λ rules. unless-no (c .before .all-within .ensures) (c .if4 .taken)
           (λ i h. let cheap = rules .cheap i (omega (arith, c .before .before .if3 .left)) in omega arith);
     }
 
@@ -36,7 +37,7 @@ returns-5 : tie.Need-returns-5
 returns-5 c =
     costs-tell _ _ (c .before .before .before .before .before .if1 .left) (c .before .before .before .before .if2 .left)
     (c .before .before .before .if3 .left)
-    (told-yes (c .before .before .all-within .ensures) (c .before .if4 .left))
+    (unless-yes (c .before .before .all-within .ensures) (c .before .if4 .left))
     (c .diagonal-free .ensures)
 
 pub costs-fit-spec : {M : Type 1} → statement M

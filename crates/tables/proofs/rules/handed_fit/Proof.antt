@@ -3,7 +3,8 @@
 use native.Mathlib.Nat.{mul-le-mul}
 use native.Mathlib.Omega.{arith}
 use borrow.Author.Needs.{needs}
-use Rattle.tables.proofs.RuleSteps.{told-yes, told-no, handed-tell}
+use Rattle.parsimony.proofs.TellsLaws.{unless-yes, unless-no}
+use Rattle.tables.proofs.RuleSteps.{handed-tell}
 use Rattle.tables.proofs.rules.handed_fit.Statement.{statement}
 use Rattle.tables.proofs.rules.handed_fit.Tie as tie
 
@@ -22,7 +23,7 @@ all-handed-requires c κs = search needs
 returns-2 : tie.Need-returns-2
 returns-2 c =
     record {
-      told = λ rules. told-no (c .before .all-handed .ensures) (c .if2 .taken)
+      told = λ rules. unless-no (c .before .all-handed .ensures) (c .if2 .taken)
           (λ i h. rules .range i (omega (arith, c .before .before .if1 .left)));
     }
 
@@ -32,7 +33,7 @@ rows-open-requires c κs = search needs
 returns-3 : tie.Need-returns-3
 returns-3 c =
     handed-tell _ _ _ _ (c .before .before .before .if1 .left)
-    (told-yes (c .before .before .all-handed .ensures) (c .before .if2 .left))
+    (unless-yes (c .before .before .all-handed .ensures) (c .before .if2 .left))
     (c .rows-open .ensures)
 
 pub handed-fit-spec : {M : Type 1} → statement M

@@ -8,7 +8,8 @@ use borrow.Author.Count.{below-none, below-more}
 use borrow.Author.Needs.{needs}
 use Rattle.parsimony.specs.Barred.{barred}
 use Rattle.parsimony.proofs.ColumnLaws.{place}
-use Rattle.tables.proofs.RuleSteps.{told-yes, told-no, all-no, all-yes}
+use Rattle.parsimony.proofs.TellsLaws.{unless-yes, unless-no}
+use Rattle.tables.proofs.RuleSteps.{all-no, all-yes}
 use Rattle.tables.proofs.rules.rows_open.Statement.{statement}
 use Rattle.tables.proofs.rules.rows_open.Tie as tie
 
@@ -38,7 +39,7 @@ row-open-requires : tie.Need-row-open-requires Inv-loop μ-loop
 row-open-requires c κs = omega (arith, row c)
 
 returns : tie.Need-returns Inv-loop μ-loop
-returns c = all-no _ (c .before .before .loop-test .taken) (told-no (c .before .row-open .ensures) (c .if1 .taken))
+returns c = all-no _ (c .before .before .loop-test .taken) (unless-no (c .before .row-open .ensures) (c .if1 .taken))
 
 add-i : tie.Need-add-i Inv-loop μ-loop
 add-i c = search needs
@@ -48,7 +49,7 @@ loop-less c = search needs
 
 loop-again : tie.Need-loop-again Inv-loop μ-loop
 loop-again c =
-    below-more _ _ (c .before .before .before .loop .inv) (told-yes (c .before .row-open .ensures) (c .if1 .left))
+    below-more _ _ (c .before .before .before .loop .inv) (unless-yes (c .before .row-open .ensures) (c .if1 .left))
 
 returns-2 : tie.Need-returns-2 Inv-loop μ-loop
 returns-2 c = all-yes _ (c .loop-test .left) (c .before .loop .inv)

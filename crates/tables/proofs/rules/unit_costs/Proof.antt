@@ -8,7 +8,7 @@ use borrow.Author.Count.{below-none, below-more}
 use borrow.Author.Needs.{needs}
 use Rattle.parsimony.specs.Column.{costAt}
 use Rattle.parsimony.specs.Test.{pick}
-use Rattle.tables.proofs.RuleSteps.{told-yes, told-no}
+use Rattle.parsimony.proofs.TellsLaws.{unless-yes, unless-no}
 use Rattle.tables.proofs.rules.unit_costs.Statement.{statement}
 use Rattle.tables.proofs.rules.unit_costs.Tie as tie
 
@@ -27,7 +27,7 @@ unit-row-requires c κs = (c .loop-test .taken, c .before .before .before .pre .
 returns : tie.Need-returns Inv-loop μ-loop
 returns c =
     record {
-      told = λ unit. told-no (c .before .unit-row .ensures) (c .if1 .taken)
+      told = λ unit. unless-no (c .before .unit-row .ensures) (c .if1 .taken)
           (λ y h. unit _ y (c .before .before .loop-test .taken) h);
     }
 
@@ -39,7 +39,7 @@ loop-less c = search needs
 
 loop-again : tie.Need-loop-again Inv-loop μ-loop
 loop-again c =
-    below-more _ _ (c .before .before .before .loop .inv) (told-yes (c .before .unit-row .ensures) (c .if1 .left))
+    below-more _ _ (c .before .before .before .loop .inv) (unless-yes (c .before .unit-row .ensures) (c .if1 .left))
 
 returns-2 : tie.Need-returns-2 Inv-loop μ-loop
 returns-2 c = record { told = λ x y h k. c .before .loop .inv x (omega arith) y k }

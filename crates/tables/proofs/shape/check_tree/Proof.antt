@@ -1,6 +1,4 @@
-use Rattle.parsimony.specs.Table.{symbol, handed}
 use Rattle.tables.proofs.MarkLaws.{by-kind, counted-zeros, marked-none}
-use native.Mathlib.Omega.{arith}
 use borrow.Author.Needs.{needs}
 use Rattle.tables.proofs.shape.check_tree.Statement.{statement}
 use Rattle.tables.proofs.shape.check_tree.Tie as tie

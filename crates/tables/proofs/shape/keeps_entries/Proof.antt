@@ -1,4 +1,3 @@
-use native.Mathlib.Omega.{arith}
 use borrow.Author.Needs.{needs}
 use Rattle.tables.proofs.shape.keeps_entries.Statement.{statement}
 use Rattle.tables.proofs.shape.keeps_entries.Tie as tie

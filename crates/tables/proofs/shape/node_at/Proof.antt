@@ -1,7 +1,6 @@
 use mathlib.Core.Path.{ap, _∙_}
-use Rattle.parsimony.specs.Table.{symbol, handed, leaf, inner}
+use Rattle.parsimony.specs.Table.{symbol, handed, leaf}
 use Rattle.tables.proofs.ShapeSteps.{node-symbol, node-handed, node-inner}
-use native.Mathlib.Omega.{arith}
 use borrow.Author.Needs.{needs}
 use Rattle.tables.proofs.shape.node_at.Statement.{statement}
 use Rattle.tables.proofs.shape.node_at.Tie as tie

@@ -1,5 +1,4 @@
 use Prim.Native.Nat.{_≤_, _-_}
-use mathlib.Core.Path.{_≡_, subst, sym, ap, _∙_}
 use lib.ListN.{length}
 use Rattle.parsimony.specs.Table.{nodeAt, childUses}
 use Rattle.tables.specs.Marks.{Counted}

@@ -1,7 +1,6 @@
 use borrow.Author.Tests.{not-true, not-false}
 use mathlib.Core.Path.{refl}
 use Rattle.tables.proofs.MarkLaws.{raised-none}
-use native.Mathlib.Omega.{arith}
 use borrow.Author.Needs.{needs}
 use Rattle.tables.proofs.shape.note_row.Statement.{statement}
 use Rattle.tables.proofs.shape.note_row.Tie as tie

@@ -1,8 +1,7 @@
 use borrow.Author.Tests.{not-true, not-false}
 use Rattle.parsimony.specs.Table.{symbol, handed}
-use Rattle.tables.proofs.TellsLaws.{told-yes, told-no}
+use Rattle.parsimony.proofs.TellsLaws.{told-yes, told-no}
 use Rattle.tables.proofs.MarkLaws.{marks-room, seen-low, rows-low, marks-keeps, keeps-marks, keeps-used, marked-next}
-use native.Mathlib.Omega.{arith}
 use borrow.Author.Needs.{needs}
 use Rattle.tables.proofs.shape.visit.Statement.{statement}
 use Rattle.tables.proofs.shape.visit.Tie as tie

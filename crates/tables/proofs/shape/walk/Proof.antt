@@ -2,7 +2,6 @@ use borrow.Author.Tests.{not-true, not-false}
 use Rattle.parsimony.specs.Table.{symbol, handed}
 use Rattle.tables.proofs.MarkLaws.{visited-yes, visited-no}
 use Prim.Native.Nat.{ℕ, _≤_, _<_, _-_}
-use mathlib.Core.Path.{_≡_, subst, sym, ap, _∙_}
 use borrow.Author.Count.{below-none, below-more}
 use lib.ListN.{length}
 use Rattle.parsimony.specs.Fault.{Keeps}

@@ -1,0 +1,4 @@
+-- Laws of the answers.
+pub mod RuleLaws
+pub mod RootLaws
+pub mod StartLaws

@@ -1,0 +1,93 @@
+-- The root's row in a column of a table that has passed the tests 1 to 5: which states it bars, and where it is read.
+-- Assumes nothing.
+use mathlib.Core.List.{[]}
+use mathlib.Core.Logic.{_↔_}
+use mathlib.Core.Path.{_≡_, refl, ap, sym, _∙_}
+use Prim.Native.Nat.{ℕ, _+_, _*_, _-_, _<_}
+use native.Mathlib.Omega.{arith}
+use lib.ListN.{length}
+use Rattle.parsimony.specs.Allowed.{mostHanded}
+use Rattle.parsimony.specs.Barred.{barred}
+use Rattle.parsimony.specs.Column.{columnOf, cellAt, handedAt, tipEntry}
+use Rattle.parsimony.specs.Row.{row}
+use Rattle.parsimony.specs.Sound.{Sound}
+use Rattle.parsimony.specs.StateSet.{Member}
+use Rattle.parsimony.specs.Table.{Legal, symbol, handed, Node, leaf, inner, kidsOf}
+use Rattle.parsimony.proofs.ColumnLaws.{place, column-sound, symbol-agrees}
+use Rattle.parsimony.proofs.RowLaws.{row-tip}
+use Rattle.parsimony.proofs.ShapeLaws.{row-within}
+use Rattle.parsimony.proofs.Size.{bound-fits, row-bound}
+use Rattle.answers.specs.CallRules.{tableRules}
+use Rattle.answers.specs.Input.{Input, nodes, nodeIn, tipsIn, column}
+use Rattle.answers.specs.Rules.{All}
+use Rattle.answers.specs.Starts.{OpenRoot}
+
+-- a table that has passed the tests is legal
+pub rules-legal : (I : Input) → All (tableRules I []) → Legal (I .left) (I .right)
+rules-legal I rules = record { size = rules .0; tree = rules .1 .0 }
+
+-- and has a node
+pub rules-node : (I : Input) → All (tableRules I []) → 0 < nodes I
+rules-node I rules = let odd = rules .0 .odd in omega arith
+
+-- its columns are sound
+pub rules-sound : (I : Input) → All (tableRules I []) → (j : ℕ) → j < I .c → Sound mostHanded (column I j)
+rules-sound I rules j inside =
+    column-sound (I .left) (I .right) (I .s) (I .costs) (I .c) (I .cells) (I .handed) j (rules-legal I rules) (rules .1 .1 .0)
+    (rules .1 .1 .1 .0) (rules .1 .1 .1 .1 .0) inside
+
+module _ (I : Input) (rules : All (tableRules I [])) (j : ℕ) (inside : j < I .c) where
+  root-below : nodes I - 1 < nodes I
+  root-below = let some = rules-node I rules in omega arith
+
+  -- the cell of a symbol tip lies in the list of cells
+  pub cell-place : (v r : ℕ) → v < nodes I → nodeIn I v ≡ leaf symbol r → r * I .c + j < length (I .cells)
+  cell-place v r h e =
+      let w = row-within (nodes I) (nodeIn I) (rules .1 .0) v h symbol r e in
+      let p = place r j (tipsIn symbol I) (I .c) w inside in
+      let n = rules .1 .1 .1 .0 .count in
+      omega arith
+
+  -- the entry of a handed tip lies in the list of handed entries
+  pub handed-place : (v k x : ℕ) → v < nodes I → nodeIn I v ≡ leaf handed k → x < I .s
+      → (j * tipsIn handed I + k) * I .s + x < length (I .handed)
+  handed-place v k x h e hx =
+      let w = row-within (nodes I) (nodeIn I) (rules .1 .0) v h handed k e in
+      let p = place j k (I .c) (tipsIn handed I) inside w in
+      let q = place (j * tipsIn handed I + k) x (I .c * tipsIn handed I) (I .s) p hx in
+      let n = rules .1 .1 .1 .1 .0 .count in
+      omega arith
+
+  -- an inner root bars no state
+  pub root-inner : (a b x : ℕ) → nodeIn I (nodes I - 1) ≡ inner a b → x < I .s → OpenRoot I j x
+  unfolding columnOf
+  root-inner a b x e hx bar =
+      let sound = rules-sound I rules j inside in
+      let P = column I j in
+      let top = nodes I - 1 in
+      let s = row-bound mostHanded P sound top a b x (omega arith) (ap kidsOf e) hx in
+      let f = bound-fits mostHanded P sound in
+      omega arith
+
+  root-leaf : (n : Node) (x : ℕ) → nodeIn I (nodes I - 1) ≡ n → kidsOf n ≡ kidsOf (leaf symbol 0)
+      → row (column I j) (nodes I - 1) x
+      ≡ tipEntry (cellAt (I .c) (I .cells) j) (handedAt (I .s) (tipsIn handed I) (I .handed) j) n x
+  unfolding columnOf
+  root-leaf n x e t =
+      row-tip (column I j) (rules-sound I rules j inside .tree) (nodes I - 1) x (omega arith) (ap kidsOf e ∙ t)
+      ∙ ap (λ m. tipEntry (cellAt (I .c) (I .cells) j) (handedAt (I .s) (tipsIn handed I) (I .handed) j) m x) e
+
+  -- a symbol tip as root bars the states that are not in its cell
+  pub root-symbol : (r x : ℕ) → nodeIn I (nodes I - 1) ≡ leaf symbol r
+      → Member (cellAt (I .c) (I .cells) j r) x ↔ OpenRoot I j x
+  root-symbol r x e =
+      let same = root-leaf (leaf symbol r) x e refl in
+      let agrees = symbol-agrees (cellAt (I .c) (I .cells) j r) x in
+      ((λ m bar. agrees .1 m (sym same ∙ bar)), (λ open-root. agrees .0 (λ bar. open-root (same ∙ bar))))
+
+  -- a handed tip as root bars what its handed row bars
+  pub root-handed : (k x : ℕ) → nodeIn I (nodes I - 1) ≡ leaf handed k
+      → (handedAt (I .s) (tipsIn handed I) (I .handed) j k x ≡ barred → ⊥) ↔ OpenRoot I j x
+  root-handed k x e =
+      let same = root-leaf (leaf handed k) x e refl in
+      ((λ n bar. n (sym same ∙ bar)), (λ open-root bar. open-root (same ∙ bar)))
