@@ -5,7 +5,7 @@ use mathlib.Core.Path.{_≡_}
 use Prim.Native.Nat.{ℕ, _*_, _-_, _≤_}
 use lib.ListN.{length, getD}
 use Rattle.parsimony.specs.Least.{low}
-use Rattle.parsimony.specs.Tree.{Kids, Descent}
+use Rattle.parsimony.specs.Tree.{Kids, Has, Descent}
 use Rattle.steps.specs.Lane.{lane, joined}
 
 -- the state of child u under a parent in state x, by its row in the room: the lowest that reaches the least
@@ -17,6 +17,12 @@ chosen s costs rows u x = low (lane costs (x * s) rows (u * s)) s
 unfoldable pub settled : ℕ → List ℕ → List ℕ → ℕ → ℕ → ℕ
 unfolding joined
 settled s costs rows u w = joined costs rows (u * s) s w s
+
+-- the children of a node with value x, and nothing else, were given their values
+pub record Passed (kids : Kids) (give : ℕ → ℕ → ℕ) (x : ℕ) (before after : List ℕ) : Type 0 where
+  pub long : length after ≡ length before
+  pub child : {u : ℕ} → Has u kids → getD after u 0 ≡ give u x
+  pub other : (i : ℕ) → (Has i kids → ⊥) → getD after i 0 ≡ getD before i 0
 
 -- the values of all n nodes, from the root's start down, were written, and nothing else
 pub record Descended (n : ℕ) (kids : ℕ → Kids) (give : ℕ → ℕ → ℕ) (start : ℕ) (before after : List ℕ) : Type 0 where

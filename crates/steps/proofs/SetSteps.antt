@@ -18,7 +18,7 @@ use Rattle.parsimony.specs.Test.{pick, both, some}
 use Rattle.parsimony.proofs.Order.{pick-true, pick-false}
 use Rattle.parsimony.proofs.StateCountLaws.{by-test, gather-within, gather-member, gather-same, some-true, some-here, both-right, both-true}
 use Rattle.parsimony.proofs.StateSetLaws.{holds-true, holds-false, union-member, set-same}
-use Rattle.steps.specs.Lane.{lane, reached, joined}
+use Rattle.steps.specs.Lane.{entryAt, lane, reached, joined, leastSet}
 
 gather-suc : (f : ℕ → Bool) (n : ℕ) → gather f (n + 1) ≡ gather f n + pick (f n) (2 ^ n) 0
 unfolding gather
@@ -64,6 +64,21 @@ pub reached-other : (costs : List ℕ) (from : ℕ) (rows : List ℕ) (at s y : 
     → reached costs from rows at s y ≡ reached costs from rows at s (y + 1)
 unfolding reached
 reached-other costs from rows at s y n = gather-other _ y (ne-eqb _ _ n)
+
+-- the same of the states at which a row is least
+pub least-set-none : (rows : List ℕ) (at s : ℕ) → 0 ≡ leastSet rows at s 0
+unfolding leastSet gather
+least-set-none rows at s = refl
+
+pub least-set-more : (rows : List ℕ) (at s y : ℕ) → entryAt rows at y ≡ least (entryAt rows at) s
+    → union (leastSet rows at s y) (one y) ≡ leastSet rows at s (y + 1)
+unfolding leastSet
+least-set-more rows at s y e = gather-more _ y (eq-eqb _ _ e)
+
+pub least-set-other : (rows : List ℕ) (at s y : ℕ) → (entryAt rows at y ≡ least (entryAt rows at) s → ⊥)
+    → leastSet rows at s y ≡ leastSet rows at s (y + 1)
+unfolding leastSet
+least-set-other rows at s y n = gather-other _ y (ne-eqb _ _ n)
 
 -- a test on some number below n + 1: on n, or on some number below n
 some-suc : (f : ℕ → Bool) (n : ℕ) → some f (n + 1) ≡ pick (f n) true (some f n)

@@ -50,3 +50,8 @@ joined costs rows at s w n =
 unfoldable pub joinAt : List ℕ → ℕ → List ℕ → ℕ → ℕ → ℕ → ℕ
 unfolding lane least plus
 joinAt costs s rows a b x = plus (least (lane costs (x * s) rows a) s) (least (lane costs (x * s) rows b) s)
+
+-- the states below n at which the row of s entries that starts at a place is least
+unfoldable pub leastSet : List ℕ → ℕ → ℕ → ℕ → ℕ
+unfolding least gather
+leastSet rows at s n = gather (λ y. eqb (entryAt rows at y) (least (entryAt rows at) s)) n

@@ -6,7 +6,7 @@ ghost use lib.ListN.{length, getD};
 ghost use Rattle.parsimony.specs.Barred.{plus};
 ghost use Rattle.parsimony.specs.Column.{cellEntry};
 ghost use Rattle.parsimony.specs.Least.{low, least};
-ghost use Rattle.steps.specs.Lane.{Within, entryAt, lane, Calm, Cheap, reached, joined, joinAt};
+ghost use Rattle.steps.specs.Lane.{Within, entryAt, lane, Calm, Cheap, reached, joined, joinAt, leastSet};
 ghost use Rattle.steps.specs.Wrote.{Wrote};
 use states::States;
 
@@ -99,6 +99,23 @@ pub fn lowest_least(rows: &[u32], at: usize, s: usize) -> usize
     lowest
 }
 
+// The states at which a row is least.
+pub fn least_set(rows: &[u32], at: usize, s: usize) -> u16
+    requires { ⌜ (at + s ≤ length (now rows)) × (0 < s) × (s ≤ 16) ⌝ }
+    ensures { λ r. ⌜ r ≡ leastSet (now (rows .entry)) at s s ⌝ }
+{
+    let best = rows[at + lowest_least(rows, at, s)];
+    let mut set = States::NONE;
+    let mut y = 0;
+    while y < s {
+        if rows[at + y] == best {
+            set = set.union(States::one(y));
+        }
+        y += 1;
+    }
+    set.0
+}
+
 // The row of a symbol tip: 0 in its cell's states and barred elsewhere.
 pub fn cell_row(cell: u16, rows: &mut [u32], at: usize, s: usize)
     requires { ⌜ (at + s ≤ length (now rows)) × (s ≤ 16) ⌝ }
@@ -115,14 +132,14 @@ pub fn cell_row(cell: u16, rows: &mut [u32], at: usize, s: usize)
     }
 }
 
-// The row of a handed tip: its handed row.
-pub fn handed_row(handed: &[u32], from: usize, rows: &mut [u32], at: usize, s: usize)
-    requires { ⌜ (from + s ≤ length (now handed)) × (at + s ≤ length (now rows)) ⌝ }
-    ensures { λ r. ⌜ Wrote at s (entryAt (now (handed .entry)) from) (now (rows .entry)) (now (rows .exit)) ⌝ }
+// A row as it stands elsewhere: a handed tip's, or the root's that is handed up.
+pub fn copy_row(source: &[u32], from: usize, rows: &mut [u32], at: usize, s: usize)
+    requires { ⌜ (from + s ≤ length (now source)) × (at + s ≤ length (now rows)) ⌝ }
+    ensures { λ r. ⌜ Wrote at s (entryAt (now (source .entry)) from) (now (rows .entry)) (now (rows .exit)) ⌝ }
 {
     let mut x = 0;
     while x < s {
-        rows[at + x] = handed[from + x];
+        rows[at + x] = source[from + x];
         x += 1;
     }
 }

@@ -1,23 +1,23 @@
--- `handed_row` meets its contract. The loop's invariant: the entries of the states below x are written.
+-- `copy_row` meets its contract. The loop's invariant: the entries of the states below x are written.
 -- The measure is what is left of the states. Assumes nothing.
 use mathlib.Core.Path.{subst, _≡_, refl}
 use Prim.Native.Nat.{_-_, _≤_}
 use native.Mathlib.Omega.{arith}
 use borrow.Author.Needs.{needs}
 use Rattle.steps.proofs.WroteLaws.{wrote-none, wrote-more}
-use Rattle.steps.proofs.handed_row.Statement.{statement}
+use Rattle.steps.proofs.copy_row.Statement.{statement}
 use Rattle.steps.specs.Lane.{entryAt}
 use Rattle.steps.specs.Wrote.{Wrote}
-use Rattle.steps.proofs.handed_row.Tie as tie
+use Rattle.steps.proofs.copy_row.Tie as tie
 
 abbrev Inv-loop : tie.InvT-loop
-Inv-loop handed from rows₀ at s x₀ rows x = (x ≤ s) × Wrote at x (entryAt handed from) rows₀ rows
+Inv-loop source from rows₀ at s x₀ rows x = (x ≤ s) × Wrote at x (entryAt source from) rows₀ rows
 
 abbrev μ-loop : tie.MeasureT-loop
-μ-loop handed from rows₀ at s x₀ rows x = s - x
+μ-loop source from rows₀ at s x₀ rows x = s - x
 
 loop-holds : tie.Need-loop-holds Inv-loop μ-loop
-loop-holds c = (omega arith, wrote-none (c .args .at) (entryAt (c .args .handed .now) (c .args .from)) (c .args .rows .now))
+loop-holds c = (omega arith, wrote-none (c .args .at) (entryAt (c .args .source .now) (c .args .from)) (c .args .rows .now))
 
 add-rows : tie.Need-add-rows Inv-loop μ-loop
 add-rows c = search needs
@@ -47,7 +47,7 @@ loop-again : tie.Need-loop-again Inv-loop μ-loop
 loop-again c =
     let inv = c .before .before .loop .inv in
     let long = inv .1 .long in
-    (omega arith, wrote-more _ _ _ (entryAt (c .before .before .before .args .handed .now) (c .before .before .before .args .from)) _ _ (inv .1) (omega arith) refl)
+    (omega arith, wrote-more _ _ _ (entryAt (c .before .before .before .args .source .now) (c .before .before .before .args .from)) _ _ (inv .1) (omega arith) refl)
 
 same-length : tie.Need-same-length Inv-loop μ-loop
 same-length c = search needs
@@ -56,10 +56,10 @@ returns : tie.Need-returns Inv-loop μ-loop
 returns c =
     let inv = c .before .loop .inv in
     let done : c .before .loop .x ≡ c .before .before .args .s = omega arith in
-    subst (λ z. Wrote (c .before .before .args .at) z (entryAt (c .before .before .args .handed .now) (c .before .before .args .from)) (c .before .before .args .rows .now) (c .before .loop .rows)) done (inv .1)
+    subst (λ z. Wrote (c .before .before .args .at) z (entryAt (c .before .before .args .source .now) (c .before .before .args .from)) (c .before .before .args .rows .now) (c .before .loop .rows)) done (inv .1)
 
-pub handed-row-spec : {M : Type 1} → statement M
-handed-row-spec =
+pub copy-row-spec : {M : Type 1} → statement M
+copy-row-spec =
     tie.close
     (tie.spec
     Inv-loop
