@@ -4,8 +4,10 @@ use mathlib.Core.List.{List}
 use mathlib.Core.Logic.{inl, inr}
 use mathlib.Core.Path.{_≡_, refl, sym, subst}
 use Prim.Native.Nat.{ℕ, suc, _+_, _*_, _≤_, _<_}
-use native.Mathlib.Nat.{mul-le-mul-left, mul-le-mul-right, suc-mul}
+use native.Mathlib.Nat.{mul-le-mul, mul-le-mul-right, suc-mul}
 use native.Mathlib.Omega.{arith}
+use mir.Syntax.{w64}
+use mir.Val.{Fits}
 use lib.ListN.{length}
 use Rattle.parsimony.specs.Table.{symbol, leaf, inner, kidsOf, nodeAt, Legal}
 use Rattle.parsimony.specs.Tree.{Has}
@@ -17,15 +19,12 @@ use Rattle.columns.specs.Ready.{symbolTips}
 pub row-inside : (u n s : ℕ) → u < n → u * s + s ≤ n * s
 row-inside u n s h = let step = suc-mul u s in let whole : suc u * s ≤ n * s = mul-le-mul-right s h in omega arith
 
--- row u of rows of s stands in the list; its number is no greater than its place
-pub record RowIn (u s : ℕ) (l : List ℕ) : Type 0 where
-  pub inside : u * s + s ≤ length l
-  pub number : u ≤ u * s
-
-pub row-in : (u n s : ℕ) (l : List ℕ) → 1 ≤ s → u < n → length l ≡ n * s → RowIn u s l
-row-in u n s l some h long =
-    let whole : u * 1 ≤ u * s = mul-le-mul-left u some in
-    record { inside = let last = row-inside u n s h in omega arith; number = omega arith }
+-- a product of a number below 2^32 and one up to 16 fits 64 bits
+pub product-fits : (x s : ℕ) → x < 4294967296 → s ≤ 16 → Fits w64 (x * s)
+product-fits x s h k =
+    let low : x ≤ 4294967296 = omega arith in
+    let whole : x * s ≤ 4294967296 * 16 = mul-le-mul low k in
+    record { fits = omega arith }
 
 module _ {left right : List ℕ} (legal : Legal left right) (v : ℕ) (h : v < length left) where
   -- a symbol tip's cell in column j of c stands among the cells

@@ -4,6 +4,7 @@
 use mathlib.Core.List.{List}
 use mathlib.Core.Path.{_≡_, ap, ap₂, sym, _∙_}
 use Prim.Native.Nat.{ℕ, _+_, _*_, _≤_, _<_}
+use native.Mathlib.Nat.{mul-le-mul}
 use native.Mathlib.Omega.{arith}
 use lib.ListN.{length, getD}
 use Rattle.parsimony.specs.Allowed.{mostHanded}
@@ -18,9 +19,10 @@ use Rattle.parsimony.proofs.LeastLaws.{least-same}
 use Rattle.parsimony.proofs.RowLaws.{row-tip, row-inner}
 use Rattle.parsimony.proofs.ShapeLaws.{row-within}
 use Rattle.steps.specs.Lane.{Calm, entryAt, lane, joinAt}
+use Rattle.tables.proofs.ShapeSteps.{tips-most}
 use Rattle.columns.specs.Ready.{Ready, handedTips}
 use Rattle.columns.specs.RowRoom.{Holds}
-use Rattle.columns.proofs.PlaceLaws.{row-inside, RowIn, row-in, kids-below}
+use Rattle.columns.proofs.PlaceLaws.{row-inside, kids-below}
 use Rattle.columns.proofs.RoomLaws.{room-calm}
 
 -- the rows of nodes a and b stand below node v's, and are calm
@@ -57,14 +59,26 @@ module _ {left right : List ℕ} {s : ℕ} {costs : List ℕ} {c : ℕ} {cells e
         ∙ ap (λ q. tipEntry (cellAt c cells j) (handedAt s (handedTips left right) entries j) q x) (sym e))
 
     module _ (t : ℕ) (count : t ≡ handedTips left right) (k : ℕ) (e : leaf handed k ≡ nodeAt left right v) where
-      -- a handed tip's row stands among the handed entries
-      pub handed-in : RowIn (j * t + k) s entries
-      handed-in =
+      -- a handed tip's row is one of t, and small
+      pub handed-small : (k < t) × (t ≤ 1023) × (j * t ≤ 67042305)
+      handed-small =
           let within = row-within (length left) (nodeAt left right) (ready .legal .tree) v h handed k (sym e) in
-          row-in (j * t + k) (c * t) s entries (let fewest = ready .costsFit .fewest in omega arith)
-          (place j k c t (ready .inside) (omega arith)) (ready .handedFit .count ∙ ap (λ m. c * m * s) (sym count))
+          let most : t ≤ 1023 =
+          let tips = tips-most (nodeAt left right) handed (length left) in
+          let nodes = ready .legal .size .most in
+          omega arith in
+          let column : j ≤ 65535 = let inside = ready .inside in let columns = ready .cellsFit .columns in omega arith in
+          let product : j * t ≤ 65535 * 1023 = mul-le-mul column most in
+          (omega arith, most, omega arith)
 
-      -- and is its row
+      -- it stands among the handed entries
+      pub handed-in : (j * t + k) * s + s ≤ length entries
+      handed-in =
+          let last = row-inside (j * t + k) (c * t) s (place j k c t (ready .inside) (handed-small .0)) in
+          let long : length entries ≡ c * t * s = ready .handedFit .count ∙ ap (λ m. c * m * s) (sym count) in
+          omega arith
+
+      -- and is the node's row
       pub handed-row : (x : ℕ) → x < s → entryAt entries ((j * t + k) * s) x ≡ row col v x
       unfolding columnOf handedAt
       handed-row x i =

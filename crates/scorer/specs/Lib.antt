@@ -1,6 +1,7 @@
 -- What the five table calls promise.
 -- Assumes nothing.
 pub mod Lent
+pub mod Starts
 pub mod Counts
 pub mod Results
 pub mod Promises

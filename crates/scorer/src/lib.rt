@@ -1,13 +1,16 @@
 // The five table calls: scoring, labelling, the set call, handing up and counting by sets.
 ghost use mathlib.Core.Path.{_≡_};
 ghost use mathlib.Core.List.{[]};
-ghost use Prim.Native.Nat.{ℕ, _<_};
+ghost use Prim.Native.Nat.{ℕ, _+_, _*_, _-_, _<_, _≤_};
 ghost use lib.ListN.{length, getD};
 ghost use Rattle.parsimony.specs.Labelling.{IsScore};
 ghost use Rattle.parsimony.specs.Table.{Kind};
 ghost use Rattle.answers.specs.CallRules.{scoreRules, labelRules, setsRules, handUpRules};
 ghost use Rattle.answers.specs.Input.{input, tipsIn, nodes, column};
 ghost use Rattle.answers.specs.Rules.{All};
+ghost use Rattle.parsimony.specs.Least.{low};
+ghost use Rattle.steps.specs.Lane.{entryAt, leastSet};
+ghost use Rattle.scorer.specs.Starts.{stateOf};
 ghost use Rattle.scorer.specs.Promises.{Worked, ScoresWritten, Scored, LabelsWritten, Labelled, SetsWritten, SetsFound, RowWritten, HandedUp, CountedBySets};
 use answers::Answer;
 use answers::Refusal;
@@ -22,6 +25,7 @@ use columns::down::fill_sets;
 use columns::down::fill_states;
 use columns::up::fill_rows;
 use steps::copy_row;
+use steps::least_entry;
 use steps::least_set;
 use steps::lowest_least;
 use tables::shape::tips_of;
@@ -30,6 +34,14 @@ use tables::shape::tips_of;
 pub enum Counted {
     Done(usize),
     Refused(Refusal),
+}
+
+// Where the root's row starts in the row room.
+fn root_place(n: usize, s: usize) -> usize
+    requires { ⌜ (0 < n) × (n ≤ 1023) × (s ≤ 16) ⌝ }
+    ensures { λ r. ⌜ r ≡ (n - 1) * s ⌝ }
+{
+    (n - 1) * s
 }
 
 // The score of column j, where h is the number of handed tips; its rows are left in the row room.
@@ -51,8 +63,7 @@ fn score_column(
         × Worked (input (now (left .entry)) (now (right .entry)) s (now (costs .entry)) c (now (cells .entry)) (now (handed .entry))) j (now (rows .entry)) (now (rows .exit)) ⌝ }
 {
     fill_rows(left, right, s, costs, c, cells, h, handed, j, rows);
-    let at = (left.len() - 1) * s;
-    rows[at + lowest_least(rows, at, s)]
+    least_entry(rows, root_place(left.len(), s), s)
 }
 
 // The scores of all columns.
@@ -110,4 +121,259 @@ pub fn score(
     }
     score_columns(left, right, s, costs, c, cells, handed, scores, rows);
     Answer::Done
+}
+
+// The root's state: the one given, or the lowest at which its row is least.
+fn root_state(rows: &[u32], at: usize, s: usize, start: Start) -> usize
+    requires { ⌜ (at + s ≤ length (now rows)) × (0 < s) ⌝ }
+    ensures { λ r. ⌜ r ≡ stateOf start (low (entryAt (now (rows .entry)) at) s) ⌝ }
+{
+    match start {
+        Start::Free => lowest_least(rows, at, s),
+        Start::Given(x) => x,
+    }
+}
+
+// The labels of column j, from the root down.
+fn label_column(
+    left: &[u16],
+    right: &[u16],
+    s: usize,
+    costs: &[u16],
+    c: usize,
+    cells: &[u16],
+    handed: &[u32],
+    j: usize,
+    start: Start,
+    states: &mut [u8],
+    rows: &mut [u32],
+)
+    requires { ⌜ All (labelRules (input (now left) (now right) s (now costs) c (now cells) (now handed)) j start (length (now states)) (length (now rows))) ⌝ }
+    ensures { λ r. ⌜ LabelsWritten (input (now (left .entry)) (now (right .entry)) s (now (costs .entry)) c (now (cells .entry)) (now (handed .entry))) j start
+        (now (states .entry)) (now (rows .entry)) (now (states .exit)) (now (rows .exit)) ⌝ }
+{
+    let h = tips_of(left, right, true);
+    fill_rows(left, right, s, costs, c, cells, h, handed, j, rows);
+    let x = root_state(rows, root_place(left.len(), s), s, start);
+    fill_states(left, right, s, costs, rows, x, states);
+}
+
+// Labelling: the state of each node in one column, from a start.
+pub fn label(
+    left: &[u16],
+    right: &[u16],
+    s: usize,
+    costs: &[u16],
+    c: usize,
+    cells: &[u16],
+    handed: &[u32],
+    j: usize,
+    start: Start,
+    states: &mut [u8],
+    rows: &mut [u32],
+) -> Answer
+    ensures { λ r. ⌜ Labelled (input (now (left .entry)) (now (right .entry)) s (now (costs .entry)) c (now (cells .entry)) (now (handed .entry))) j start
+        (now (states .entry)) (now (rows .entry)) r (now (states .exit)) (now (rows .exit)) ⌝ }
+{
+    let answer = label_tests(
+        left,
+        right,
+        s,
+        costs,
+        c,
+        cells,
+        handed,
+        j,
+        start,
+        states.len(),
+        rows.len(),
+    );
+    if let Answer::Refused(r) = answer {
+        return Answer::Refused(r);
+    }
+    label_column(
+        left,
+        right,
+        s,
+        costs,
+        c,
+        cells,
+        handed,
+        j,
+        start,
+        states,
+        rows,
+    );
+    Answer::Done
+}
+
+fn narrow(set: usize) -> u16
+    requires { ⌜ set < 65536 ⌝ }
+    ensures { λ r. ⌜ r ≡ set ⌝ }
+{
+    set as u16
+}
+
+// The root's set: the one given, or the states at which its row is least.
+fn root_set(rows: &[u32], at: usize, s: usize, start: Start) -> u16
+    requires { ⌜ (at + s ≤ length (now rows)) × (0 < s) × (s ≤ 16) ⌝ }
+    requires { ⌜ stateOf start 0 < 65536 ⌝ }
+    ensures { λ r. ⌜ r ≡ stateOf start (leastSet (now (rows .entry)) at s s) ⌝ }
+{
+    match start {
+        Start::Free => least_set(rows, at, s),
+        Start::Given(set) => narrow(set),
+    }
+}
+
+// The sets of column j, from the root down.
+fn set_column(
+    left: &[u16],
+    right: &[u16],
+    s: usize,
+    costs: &[u16],
+    c: usize,
+    cells: &[u16],
+    handed: &[u32],
+    j: usize,
+    start: Start,
+    sets: &mut [u16],
+    rows: &mut [u32],
+)
+    requires { ⌜ All (setsRules (input (now left) (now right) s (now costs) c (now cells) (now handed)) j start (length (now sets)) (length (now rows))) ⌝ }
+    ensures { λ r. ⌜ SetsWritten (input (now (left .entry)) (now (right .entry)) s (now (costs .entry)) c (now (cells .entry)) (now (handed .entry))) j start
+        (now (sets .entry)) (now (rows .entry)) (now (sets .exit)) (now (rows .exit)) ⌝ }
+{
+    let h = tips_of(left, right, true);
+    fill_rows(left, right, s, costs, c, cells, h, handed, j, rows);
+    let set = root_set(rows, root_place(left.len(), s), s, start);
+    fill_sets(left, right, s, costs, rows, set, sets);
+}
+
+// The set call: the set of each node in one column, from a start set.
+pub fn sets(
+    left: &[u16],
+    right: &[u16],
+    s: usize,
+    costs: &[u16],
+    c: usize,
+    cells: &[u16],
+    handed: &[u32],
+    j: usize,
+    start: Start,
+    sets: &mut [u16],
+    rows: &mut [u32],
+) -> Answer
+    ensures { λ r. ⌜ SetsFound (input (now (left .entry)) (now (right .entry)) s (now (costs .entry)) c (now (cells .entry)) (now (handed .entry))) j start
+        (now (sets .entry)) (now (rows .entry)) r (now (sets .exit)) (now (rows .exit)) ⌝ }
+{
+    let answer = sets_tests(
+        left,
+        right,
+        s,
+        costs,
+        c,
+        cells,
+        handed,
+        j,
+        start,
+        sets.len(),
+        rows.len(),
+    );
+    if let Answer::Refused(r) = answer {
+        return Answer::Refused(r);
+    }
+    set_column(
+        left,
+        right,
+        s,
+        costs,
+        c,
+        cells,
+        handed,
+        j,
+        start,
+        sets,
+        rows,
+    );
+    Answer::Done
+}
+
+// The root's row of column j.
+fn row_column(
+    left: &[u16],
+    right: &[u16],
+    s: usize,
+    costs: &[u16],
+    c: usize,
+    cells: &[u16],
+    handed: &[u32],
+    j: usize,
+    row: &mut [u32],
+    rows: &mut [u32],
+)
+    requires { ⌜ All (handUpRules (input (now left) (now right) s (now costs) c (now cells) (now handed)) j (length (now row)) (length (now rows))) ⌝ }
+    ensures { λ r. ⌜ RowWritten (input (now (left .entry)) (now (right .entry)) s (now (costs .entry)) c (now (cells .entry)) (now (handed .entry))) j
+        (now (row .entry)) (now (rows .entry)) (now (row .exit)) (now (rows .exit)) ⌝ }
+{
+    let h = tips_of(left, right, true);
+    fill_rows(left, right, s, costs, c, cells, h, handed, j, rows);
+    copy_row(rows, root_place(left.len(), s), row, 0, s);
+}
+
+// Handing up: the root's row in one column.
+pub fn hand_up(
+    left: &[u16],
+    right: &[u16],
+    s: usize,
+    costs: &[u16],
+    c: usize,
+    cells: &[u16],
+    handed: &[u32],
+    j: usize,
+    row: &mut [u32],
+    rows: &mut [u32],
+) -> Answer
+    ensures { λ r. ⌜ HandedUp (input (now (left .entry)) (now (right .entry)) s (now (costs .entry)) c (now (cells .entry)) (now (handed .entry))) j
+        (now (row .entry)) (now (rows .entry)) r (now (row .exit)) (now (rows .exit)) ⌝ }
+{
+    let answer = hand_up_tests(
+        left,
+        right,
+        s,
+        costs,
+        c,
+        cells,
+        handed,
+        j,
+        row.len(),
+        rows.len(),
+    );
+    if let Answer::Refused(r) = answer {
+        return Answer::Refused(r);
+    }
+    row_column(left, right, s, costs, c, cells, handed, j, row, rows);
+    Answer::Done
+}
+
+// Counting by sets: the preliminary set of each node in one column, and the number of changes.
+pub fn count(
+    left: &[u16],
+    right: &[u16],
+    s: usize,
+    costs: &[u16],
+    c: usize,
+    cells: &[u16],
+    j: usize,
+    sets: &mut [u16],
+) -> Counted
+    ensures { λ r. ⌜ CountedBySets
+        (input (now (left .entry)) (now (right .entry)) s (now (costs .entry)) c (now (cells .entry)) []) j
+        (now (sets .entry)) r (now (sets .exit)) ⌝ }
+{
+    let answer = count_tests(left, right, s, costs, c, cells, j, sets.len());
+    if let Answer::Refused(r) = answer {
+        return Counted::Refused(r);
+    }
+    Counted::Done(fill_prelims(left, right, c, cells, j, sets))
 }

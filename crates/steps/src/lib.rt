@@ -99,12 +99,20 @@ pub fn lowest_least(rows: &[u32], at: usize, s: usize) -> usize
     lowest
 }
 
+// The least entry of a row.
+pub fn least_entry(rows: &[u32], at: usize, s: usize) -> u32
+    requires { ⌜ (at + s ≤ length (now rows)) × (0 < s) ⌝ }
+    ensures { λ r. ⌜ r ≡ least (entryAt (now (rows .entry)) at) s ⌝ }
+{
+    rows[at + lowest_least(rows, at, s)]
+}
+
 // The states at which a row is least.
 pub fn least_set(rows: &[u32], at: usize, s: usize) -> u16
     requires { ⌜ (at + s ≤ length (now rows)) × (0 < s) × (s ≤ 16) ⌝ }
     ensures { λ r. ⌜ r ≡ leastSet (now (rows .entry)) at s s ⌝ }
 {
-    let best = rows[at + lowest_least(rows, at, s)];
+    let best = least_entry(rows, at, s);
     let mut set = States::NONE;
     let mut y = 0;
     while y < s {

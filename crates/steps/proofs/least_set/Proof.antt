@@ -1,17 +1,15 @@
 -- `least_set` meets its contract. The loop's invariant: the set has the states below y at which the row is least.
 -- The measure is what is left of the states. Assumes nothing.
 use mathlib.Core.Logic.{⊎-elim}
-use mathlib.Core.Path.{subst, _≡_, sym, ap, ap₂, _∙_}
-use Prim.Native.Nat.{_-_, _≤_, _<_}
+use mathlib.Core.Path.{_≡_, sym, ap, ap₂, _∙_}
+use Prim.Native.Nat.{_-_, _≤_}
 use native.Mathlib.Omega.{arith}
 use borrow.Author.Needs.{needs}
-use Rattle.parsimony.proofs.LeastLaws.{low-within, least-low}
-use Rattle.parsimony.specs.Least.{low}
 use Rattle.parsimony.specs.StateSet.{union}
 use Rattle.states.specs.declared.States.{States}
 use Rattle.steps.proofs.SetSteps.{least-set-none, least-set-more, least-set-other}
 use Rattle.steps.proofs.least_set.Statement.{statement}
-use Rattle.steps.specs.Lane.{entryAt, leastSet}
+use Rattle.steps.specs.Lane.{leastSet}
 use Rattle.steps.proofs.least_set.Tie as tie
 
 abbrev Inv-loop : tie.InvT-loop
@@ -20,29 +18,11 @@ Inv-loop rows at s best set₀ y₀ set y = (y ≤ s) × (set .0 ≡ leastSet ro
 abbrev μ-loop : tie.MeasureT-loop
 μ-loop rows at s best set₀ y₀ set y = s - y
 
-lowest-least-requires : tie.Need-lowest-least-requires Inv-loop μ-loop
-lowest-least-requires c κs = search needs
-
-add-best : tie.Need-add-best Inv-loop μ-loop
-add-best c =
-    let low : c .lowest-least .result < c .before .before .args .s =
-    subst (λ k. k < c .before .before .args .s) (sym (c .lowest-least .ensures)) (low-within (entryAt (c .before .before .args .rows .now) (c .before .before .args .at)) (c .before .before .args .s) (c .before .before .pre .1)) in
-    omega (arith, c .before .before .good)
-
-mul-best : tie.Need-mul-best Inv-loop μ-loop
-mul-best c =
-    let low : c .lowest-least .result < c .before .before .args .s =
-    subst (λ k. k < c .before .before .args .s) (sym (c .lowest-least .ensures)) (low-within (entryAt (c .before .before .args .rows .now) (c .before .before .args .at)) (c .before .before .args .s) (c .before .before .pre .1)) in
-    omega (arith, c .before .before .good)
-
-shared-slice-read-best : tie.Need-shared-slice-read-best Inv-loop μ-loop
-shared-slice-read-best c =
-    let low : c .before .lowest-least .result < c .before .before .before .args .s =
-    subst (λ k. k < c .before .before .before .args .s) (sym (c .before .lowest-least .ensures)) (low-within (entryAt (c .before .before .before .args .rows .now) (c .before .before .before .args .at)) (c .before .before .before .args .s) (c .before .before .before .pre .1)) in
-    omega arith
+least-entry-requires : tie.Need-least-entry-requires Inv-loop μ-loop
+least-entry-requires c κs = search needs
 
 loop-holds : tie.Need-loop-holds Inv-loop μ-loop
-loop-holds c = (omega arith, least-set-none (c .before .before .before .args .rows .now) (c .before .before .before .args .at) (c .before .before .before .args .s))
+loop-holds c = (omega arith, least-set-none (c .before .before .args .rows .now) (c .before .before .args .at) (c .before .before .args .s))
 
 add-if1 : tie.Need-add-if1 Inv-loop μ-loop
 add-if1 c = search needs
@@ -67,24 +47,23 @@ loop-less c = search needs
 
 loop-again : tie.Need-loop-again Inv-loop μ-loop
 loop-again c =
-    let f = entryAt (c .before .before .before .before .before .before .before .args .rows .now) (c .before .before .before .before .before .before .before .args .at) in
     let y = c .before .before .before .loop .y in
     let inv = c .before .before .before .loop .inv in
-    let best = ap f (c .before .before .before .before .before .lowest-least .ensures) ∙ sym (least-low f (c .before .before .before .before .before .before .before .args .s)) in (
+    let best = c .before .before .before .before .least-entry .ensures in (
       omega arith,
       ⊎-elim
           (λ w. ap (λ (r : States). r .0) (w .3)
           ∙ w .2 .ensures
           ∙ ap₂ union (inv .1) (w .1 .ensures)
-          ∙ least-set-more (c .before .before .before .before .before .before .before .args .rows .now) (c .before .before .before .before .before .before .before .args .at) (c .before .before .before .before .before .before .before .args .s) y (w .0 .taken ∙ best))
-          (λ w. ap (λ (r : States). r .0) (w .1) ∙ inv .1 ∙ least-set-other (c .before .before .before .before .before .before .before .args .rows .now) (c .before .before .before .before .before .before .before .args .at) (c .before .before .before .before .before .before .before .args .s) y (λ e. w .0 .left (e ∙ sym best))) (c .if1 .came),
+          ∙ least-set-more (c .before .before .before .before .before .before .args .rows .now) (c .before .before .before .before .before .before .args .at) (c .before .before .before .before .before .before .args .s) y (w .0 .taken ∙ best))
+          (λ w. ap (λ (r : States). r .0) (w .1) ∙ inv .1 ∙ least-set-other (c .before .before .before .before .before .before .args .rows .now) (c .before .before .before .before .before .before .args .at) (c .before .before .before .before .before .before .args .s) y (λ e. w .0 .left (e ∙ sym best))) (c .if1 .came),
     )
 
 returns : tie.Need-returns Inv-loop μ-loop
 returns c =
     let inv = c .before .loop .inv in
-    let done : c .before .loop .y ≡ c .before .before .before .before .before .args .s = omega arith in
-    inv .1 ∙ ap (leastSet (c .before .before .before .before .before .args .rows .now) (c .before .before .before .before .before .args .at) (c .before .before .before .before .before .args .s)) done
+    let done : c .before .loop .y ≡ c .before .before .before .before .args .s = omega arith in
+    inv .1 ∙ ap (leastSet (c .before .before .before .before .args .rows .now) (c .before .before .before .before .args .at) (c .before .before .before .before .args .s)) done
 
 pub least-set-spec : {M : Type 1} → statement M
 least-set-spec =
@@ -92,10 +71,7 @@ least-set-spec =
     (tie.spec
     Inv-loop
     μ-loop
-    lowest-least-requires
-    add-best
-    mul-best
-    shared-slice-read-best
+    least-entry-requires
     loop-holds
     add-if1
     mul-if1

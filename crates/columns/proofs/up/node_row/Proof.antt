@@ -8,8 +8,8 @@ use lib.ListN.{length}
 use Rattle.parsimony.specs.Table.{symbol, handed, Node, leaf, inner, nodeAt}
 use Rattle.steps.proofs.WroteLaws.{wrote-same}
 use Rattle.tables.specs.NodeOf.{nodeOf}
-use Rattle.columns.proofs.PlaceLaws.{row-inside, RowIn, cell-inside}
-use Rattle.columns.proofs.RowSteps.{CalmKids, symbol-row, handed-in, handed-row, kids-calm, inner-row}
+use Rattle.columns.proofs.PlaceLaws.{row-inside, product-fits, cell-inside}
+use Rattle.columns.proofs.RowSteps.{CalmKids, symbol-row, handed-small, handed-in, handed-row, kids-calm, inner-row}
 use Rattle.columns.proofs.up.node_row.Statement.{statement}
 use Rattle.columns.proofs.up.node_row.Tie as tie
 
@@ -51,12 +51,12 @@ cell-at c =
     cell-inside (ready .legal) (start .args .v) (start .pre .1 .1 .0 .0) (start .args .c) (start .args .cells .now)
     (start .args .j) (c .r .given .0 .0) (ready .cellsFit .count) (ready .inside) (is-symbol c)
 
--- a handed tip's row stands among the handed entries
-entries-at : (c : tie.After-k)
-    → RowIn (from-k c .args .j * from-k c .args .h + c .k .given .0 .0) (from-k c .args .s) (from-k c .args .handed .now)
-entries-at c =
+-- a handed tip's row is one of h, and small
+small-at : (c : tie.After-k)
+    → (c .k .given .0 .0 < from-k c .args .h) × (from-k c .args .h ≤ 1023) × (from-k c .args .j * from-k c .args .h ≤ 67042305)
+small-at c =
     let start = from-k c in
-    handed-in (start .pre .0) (start .args .v) (start .pre .1 .1 .0 .0) (start .args .h) (start .pre .1 .0)
+    handed-small (start .pre .0) (start .args .v) (start .pre .1 .1 .0 .0) (start .args .h) (start .pre .1 .0)
     (c .k .given .0 .0) (is-handed c)
 
 -- the children's rows stand below, and are calm
@@ -95,16 +95,24 @@ enum-known-k : tie.Need-enum-known-k
 enum-known-k c = search needs
 
 mul-copy-row : tie.Need-mul-copy-row
-mul-copy-row c = let at = entries-at (c .before) in omega (arith, from-k (c .before) .good)
+mul-copy-row c = let small = small-at (c .before) in omega arith
 
 add-copy-row : tie.Need-add-copy-row
-add-copy-row c = let at = entries-at (c .before) in omega (arith, from-k (c .before) .good)
+add-copy-row c = let small = small-at (c .before) in omega arith
 
 mul-copy-row-2 : tie.Need-mul-copy-row-2
-mul-copy-row-2 c = let at = entries-at (c .before) in omega (arith, from-k (c .before) .good)
+mul-copy-row-2 c =
+    let small = small-at (c .before) in
+    product-fits _ _ (omega arith) (from-k (c .before) .pre .0 .costsFit .most)
 
 copy-row-requires : tie.Need-copy-row-requires
-copy-row-requires c κs = (entries-at (c .before .before) .inside, room (from-k (c .before .before)))
+copy-row-requires c κs =
+    let at = c .before .before in
+    let start = from-k at in (
+      handed-in (start .pre .0) (start .args .v) (start .pre .1 .1 .0 .0) (start .args .h) (start .pre .1 .0)
+          (at .k .given .0 .0) (is-handed at),
+      room start,
+    )
 
 enum-known-a : tie.Need-enum-known-a
 enum-known-a c = search needs
@@ -127,12 +135,10 @@ inner-row-requires : tie.Need-inner-row-requires
 inner-row-requires c κs =
     let start = from-a (c .before .before) in
     let costs = start .pre .0 .costsFit in
-    let kids = kids-at (c .before .before) in (
+    let kids = kids-at (c .before .before) in
+    let last = room start in (
       (costs .count, costs .cheap),
-      (
-        (kids .leftCalm, kids .rightCalm),
-        ((omega (arith, costs .fewest), costs .most), (kids .leftUnder, kids .rightUnder, room start)),
-      ),
+      ((search needs, search needs), ((omega (arith, costs .fewest), costs .most), omega arith)),
     )
 
 same-length : tie.Need-same-length

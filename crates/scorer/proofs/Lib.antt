@@ -1,0 +1,9 @@
+-- Laws of the five calls, and that no second outcome meets their promises.
+-- Assumes nothing.
+pub mod LinkLaws
+pub mod ResultLaws
+pub mod RuleParts
+pub mod ScoreSteps
+pub mod AnswerLaws
+pub mod StartSteps
+pub mod CountResult

@@ -1,0 +1,55 @@
+-- From a start to the results: what the work down the tree writes is right for every start that the rules allow.
+-- Assumes nothing.
+use mathlib.Core.List.{List, []}
+use Prim.Native.Nat.{ℕ, _*_, _-_, _^_, _≤_, _<_}
+use native.Mathlib.Omega.{arith}
+use lib.Pow.{pow-mono}
+use Rattle.parsimony.specs.Least.{low}
+use Rattle.parsimony.specs.Row.{row}
+use Rattle.parsimony.specs.Table.{kidsAt}
+use Rattle.parsimony.specs.Tree.{Descent}
+use Rattle.parsimony.proofs.LeastLaws.{low-within}
+use Rattle.answers.specs.CallRules.{tableRules}
+use Rattle.answers.specs.Input.{Input, nodes, column}
+use Rattle.answers.specs.Rules.{All}
+use Rattle.answers.specs.Starts.{StateStart, SetStart}
+use Rattle.answers.specs.declared.Start.{Start}
+use Rattle.answers.specs.declared.Start.the-variants.{Free, Given}
+use Rattle.columns.specs.Down.{chosen, settled}
+use Rattle.columns.specs.RowRoom.{Holds}
+use Rattle.steps.specs.Lane.{entryAt, leastSet}
+use Rattle.scorer.specs.Results.{IsLabelling, IsSet}
+use Rattle.scorer.specs.Starts.{stateOf}
+use Rattle.scorer.proofs.LinkLaws.{rules-state, start-is, start-set-is}
+use Rattle.scorer.proofs.ResultLaws.{label-free, label-given, set-free, set-given}
+
+module _ (I : Input) (rules : All (tableRules I [])) (j : ℕ) (inside : j < I .c) (rows : List ℕ) where
+  -- the root's state is a state
+  pub start-state : (start : Start) → StateStart I j start → stateOf start (low (entryAt rows ((nodes I - 1) * I .s)) (I .s)) < I .s
+  start-state Free fits = low-within _ (I .s) (rules-state I rules)
+  start-state (Given x) fits = fits .0
+
+  -- a start set is a 16-bit number
+  pub start-narrow : (start : Start) → SetStart I j start → stateOf start 0 < 65536
+  start-narrow Free fits = omega arith
+  start-narrow (Given w) fits =
+      let wide : 2 ^ I .s ≤ 2 ^ 16 = pow-mono (rules .1 .1 .0 .most) in
+      omega (arith, fits .1)
+
+  module _ (held : Holds (row (column I j)) (nodes I) (I .s) rows) where
+    -- the states written down from the root's are the labelling from the start
+    pub labels-right : (start : Start) (l : ℕ → ℕ) → StateStart I j start
+        → Descent (nodes I - 1) (kidsAt (I .left) (I .right)) (chosen (I .s) (I .costs) rows)
+        (stateOf start (low (entryAt rows ((nodes I - 1) * I .s)) (I .s))) l
+        → IsLabelling (column I j) start l
+    labels-right Free l fits down =
+        label-free I rules j inside rows held _ l (start-is I rules j inside rows held) down
+    labels-right (Given x) l fits down = label-given I rules j inside rows held x l (fits .0) (fits .1) down
+
+    -- the sets written down from the root's are the sets from the start
+    pub sets-right : (start : Start) (S : ℕ → ℕ) → SetStart I j start
+        → Descent (nodes I - 1) (kidsAt (I .left) (I .right)) (settled (I .s) (I .costs) rows)
+        (stateOf start (leastSet rows ((nodes I - 1) * I .s) (I .s) (I .s))) S
+        → (v : ℕ) → v < nodes I → IsSet (column I j) start v (S v)
+    sets-right Free S fits down v h = set-free I rules j inside rows held _ S (start-set-is I rules j inside rows held) down v h
+    sets-right (Given w) S fits down v h = set-given I rules j inside rows held w S (fits .1) (fits .2) down v h

@@ -1,0 +1,52 @@
+-- `count` meets its contract: a refusal of the tests leaves all as it was, and else the column is counted.
+-- Assumes nothing.
+use mathlib.Core.Path.{refl}
+use borrow.Author.Needs.{needs}
+use lib.ListN.{length}
+use Rattle.answers.proofs.RuleLaws.{done-all}
+use Rattle.scorer.proofs.AnswerLaws.{given-refused, given-done}
+use Rattle.scorer.proofs.CountResult.{count-legal, count-right}
+use Rattle.scorer.proofs.count.Statement.{statement}
+use Rattle.scorer.proofs.count.Tie as tie
+
+count-tests-requires : tie.Need-count-tests-requires
+count-tests-requires c κs = search needs
+
+enum-known-answer : tie.Need-enum-known-answer
+enum-known-answer c = search needs
+
+returns : tie.Need-returns
+returns c = record { answer = given-refused (c .before .before .before .count-tests .ensures) (c .before .answer .given .1); lists = refl }
+
+enum-told : tie.Need-enum-told
+enum-told c = search needs
+
+fill-prelims-requires : tie.Need-fill-prelims-requires
+fill-prelims-requires c κs =
+    let r = done-all _ _ _ _ (c .before .before .before .count-tests .ensures) (c .before .enum-told .given .1) in (
+      (count-legal (c .before .before .before .before .before .before .before .before .before .args .left .now) (c .before .before .before .before .before .before .before .before .before .args .right .now) (c .before .before .before .before .before .before .before .before .before .args .s) (c .before .before .before .before .before .before .before .before .before .args .costs .now) (c .before .before .before .before .before .before .before .before .before .args .c) (c .before .before .before .before .before .before .before .before .before .args .cells .now) (c .before .before .before .before .before .before .before .before .before .args .j) (length (c .before .before .before .before .before .before .before .before .before .args .sets .now)) r, r .1 .1 .1 .1 .1 .1 .0 .1),
+      ((r .1 .1 .1 .0 .count, r .1 .1 .1 .1 .1 .0, r .1 .1 .1 .0 .columns), r .1 .1 .1 .1 .1 .1 .1 .0),
+    )
+
+same-length : tie.Need-same-length
+same-length c = c .before .before .fill-prelims .ensures .sets .long
+
+returns-2 : tie.Need-returns-2
+returns-2 c =
+    let r = done-all _ _ _ _ (c .before .before .before .before .before .before .count-tests .ensures) (c .before .before .before .before .enum-told .given .1) in
+    record {
+      answer = given-done (c .before .before .before .before .before .before .count-tests .ensures) (c .before .before .before .before .enum-told .given .1);
+      lists = count-right (c .before .before .before .before .before .before .before .before .before .before .before .before .args .left .now) (c .before .before .before .before .before .before .before .before .before .before .before .before .args .right .now) (c .before .before .before .before .before .before .before .before .before .before .before .before .args .s) (c .before .before .before .before .before .before .before .before .before .before .before .before .args .costs .now) (c .before .before .before .before .before .before .before .before .before .before .before .before .args .c) (c .before .before .before .before .before .before .before .before .before .before .before .before .args .cells .now) (c .before .before .before .before .before .before .before .before .before .before .before .before .args .j) (length (c .before .before .before .before .before .before .before .before .before .before .before .before .args .sets .now)) _ _ _ r (c .before .before .fill-prelims .ensures);
+    }
+
+pub count-spec : {M : Type 1} → statement M
+count-spec =
+    tie.close
+    (tie.spec
+    count-tests-requires
+    enum-known-answer
+    returns
+    enum-told
+    fill-prelims-requires
+    same-length
+    returns-2)

@@ -1,0 +1,32 @@
+-- `root_set` meets its contract, by the cases of the start.
+-- Assumes nothing.
+use mathlib.Core.Path.{sym, ap, _∙_, subst}
+use Prim.Native.Nat.{_<_}
+use borrow.Author.Needs.{needs}
+use Rattle.scorer.proofs.root_set.Statement.{statement}
+use Rattle.scorer.specs.Starts.{stateOf}
+use Rattle.steps.specs.Lane.{leastSet}
+use Rattle.scorer.proofs.root_set.Tie as tie
+
+enum-told : tie.Need-enum-told
+enum-told c = search needs
+
+least-set-requires : tie.Need-least-set-requires
+least-set-requires c κs = c .before .before .before .pre .0
+
+enum-known-start : tie.Need-enum-known-start
+enum-known-start c = search needs
+
+narrow-requires : tie.Need-narrow-requires
+narrow-requires c κs = subst (λ t. stateOf t 0 < 65536) (c .before .start .given .1) (c .before .before .before .before .pre .1)
+
+returns : tie.Need-returns
+returns c = c .least-set .ensures ∙ ap (λ t. stateOf t (leastSet (c .before .before .before .before .args .rows .now) (c .before .before .before .before .args .at) (c .before .before .before .before .args .s) (c .before .before .before .before .args .s))) (sym (c .before .enum-told .given .1))
+
+returns-2 : tie.Need-returns-2
+returns-2 c = c .narrow .ensures ∙ ap (λ t. stateOf t (leastSet (c .before .before .before .before .before .args .rows .now) (c .before .before .before .before .before .args .at) (c .before .before .before .before .before .args .s) (c .before .before .before .before .before .args .s))) (sym (c .before .before .start .given .1))
+
+pub root-set-spec : {M : Type 1} → statement M
+root-set-spec =
+    tie.close
+    (tie.spec enum-told least-set-requires enum-known-start narrow-requires returns returns-2)

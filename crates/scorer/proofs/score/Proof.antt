@@ -1,0 +1,45 @@
+-- `score` meets its contract: a refusal of the tests leaves all as it was, and else all columns are scored.
+-- Assumes nothing.
+use mathlib.Core.Path.{refl}
+use borrow.Author.Needs.{needs}
+use Rattle.answers.proofs.RuleLaws.{done-all}
+use Rattle.scorer.proofs.AnswerLaws.{given-refused, given-done}
+use Rattle.scorer.proofs.score.Statement.{statement}
+use Rattle.scorer.proofs.score.Tie as tie
+
+score-tests-requires : tie.Need-score-tests-requires
+score-tests-requires c κs = search needs
+
+enum-known-answer : tie.Need-enum-known-answer
+enum-known-answer c = search needs
+
+returns : tie.Need-returns
+returns c = record { answer = given-refused (c .before .before .before .score-tests .ensures) (c .before .answer .given .1); lists = (refl, refl) }
+
+enum-told : tie.Need-enum-told
+enum-told c = search needs
+
+score-columns-requires : tie.Need-score-columns-requires
+score-columns-requires c κs = done-all _ _ _ _ (c .before .before .before .before .score-tests .ensures) (c .before .before .enum-told .given .1)
+
+same-length : tie.Need-same-length
+same-length c = search needs
+
+same-length-2 : tie.Need-same-length-2
+same-length-2 c = search needs
+
+returns-2 : tie.Need-returns-2
+returns-2 c = record { answer = given-done (c .before .before .before .before .before .before .before .before .before .score-tests .ensures) (c .before .before .before .before .before .before .before .enum-told .given .1); lists = c .before .before .before .before .score-columns .ensures }
+
+pub score-spec : {M : Type 1} → statement M
+score-spec =
+    tie.close
+    (tie.spec
+    score-tests-requires
+    enum-known-answer
+    returns
+    enum-told
+    score-columns-requires
+    same-length
+    same-length-2
+    returns-2)
