@@ -2,11 +2,15 @@
 -- Assumes nothing.
 use mathlib.Core.List.{List, []}
 use mathlib.Core.Path.{_≡_, ap, sym, _∙_, subst}
-use Prim.Native.Nat.{ℕ, _*_}
+use Prim.Native.Nat.{ℕ, _*_, _<_}
 use native.Mathlib.Nat.{mul-zero, zero-mul, zero-add}
 use native.Mathlib.Omega.{arith}
 use lib.ListN.{getD}
-use Rattle.parsimony.specs.Allowed.{HandedRules}
+use Rattle.parsimony.specs.Allowed.{HandedRules, mostHanded}
+use Rattle.parsimony.specs.Barred.{barred}
+use Rattle.parsimony.specs.Row.{score}
+use Rattle.parsimony.proofs.ColumnLaws.{column-sound}
+use Rattle.parsimony.proofs.Scoring.{score-unique, score-least, score-open}
 use Rattle.parsimony.specs.Labelling.{IsScore}
 use Rattle.parsimony.specs.Table.{Legal, handed}
 use Rattle.parsimony.proofs.Demand2.{column-score, column-count}
@@ -53,3 +57,14 @@ module _ (left right : List ℕ) (s : ℕ) (costs : List ℕ) (c : ℕ) (cells :
         count = p .count;
         score = subst (IsScore (column table j)) (sym (p .count ∙ counted .0)) scored;
       }
+
+  -- a change count is below the barred entry
+  pub count-small : (changes : ℕ) → All (countRules table j room) → IsScore (column table j) changes → changes < barred
+  count-small changes r meant =
+      let rules = none-handed s c (tipsIn handed table) (r .1 .1 .1 .1 .1 .1 .0 .1) in
+      let sound =
+      column-sound left right s costs c cells [] j (count-legal r) (r .1 .1 .0) (r .1 .1 .1 .0) rules
+      (r .1 .1 .1 .1 .1 .0) in
+      let same = score-unique (column table j) changes (score (column table j)) meant (score-least mostHanded (column table j) sound) in
+      let small = score-open mostHanded (column table j) sound in
+      omega arith

@@ -7,3 +7,5 @@ pub mod ScoreSteps
 pub mod AnswerLaws
 pub mod StartSteps
 pub mod CountResult
+pub mod Outcomes
+pub mod LabelOutcomes

@@ -1,0 +1,38 @@
+-- Each call of the C interface: some answer meets the call's promise, and the code returned is its packing.
+-- Assumes nothing.
+use mathlib.Core.List.{List}
+use mathlib.Core.Path.{_≡_}
+use Prim.Native.Nat.{ℕ}
+use Rattle.answers.specs.Input.{Input}
+use Rattle.answers.specs.declared.Answer.{Answer}
+use Rattle.answers.specs.declared.Start.{Start}
+use Rattle.scorer.specs.Promises.{Scored, Labelled, SetsFound, HandedUp, CountedBySets}
+use Rattle.scorer.specs.declared.Counted.{Counted}
+use Rattle.calls.specs.Codes.{codeOf, countCode}
+
+pub record ScoredCode (I : Input) (scores rows : List ℕ) (code : ℕ) (scores' rows' : List ℕ) : Type 0 where
+  pub answer : Answer
+  pub packed : code ≡ codeOf answer
+  pub promise : Scored I scores rows answer scores' rows'
+
+pub record LabelledCode (I : Input) (j : ℕ) (start : Start) (states rows : List ℕ) (code : ℕ) (states' rows' : List ℕ)
+    : Type 0 where
+  pub answer : Answer
+  pub packed : code ≡ codeOf answer
+  pub promise : Labelled I j start states rows answer states' rows'
+
+pub record SetsCode (I : Input) (j : ℕ) (start : Start) (sets rows : List ℕ) (code : ℕ) (sets' rows' : List ℕ)
+    : Type 0 where
+  pub answer : Answer
+  pub packed : code ≡ codeOf answer
+  pub promise : SetsFound I j start sets rows answer sets' rows'
+
+pub record HandedUpCode (I : Input) (j : ℕ) (row rows : List ℕ) (code : ℕ) (row' rows' : List ℕ) : Type 0 where
+  pub answer : Answer
+  pub packed : code ≡ codeOf answer
+  pub promise : HandedUp I j row rows answer row' rows'
+
+pub record CountCode (I : Input) (j : ℕ) (sets : List ℕ) (code : ℕ) (sets' : List ℕ) : Type 0 where
+  pub answer : Counted
+  pub packed : code ≡ countCode answer
+  pub promise : CountedBySets I j sets answer sets'

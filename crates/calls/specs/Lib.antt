@@ -1,0 +1,4 @@
+-- What the C interface of the five table calls promises.
+-- Assumes nothing.
+pub mod Codes
+pub mod Coded
