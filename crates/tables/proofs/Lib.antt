@@ -2,3 +2,4 @@
 pub mod RuleSteps
 pub mod ShapeSteps
 pub mod MarkLaws
+pub mod VisitLaws

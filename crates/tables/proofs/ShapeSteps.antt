@@ -75,7 +75,7 @@ module _ (node : ℕ → Node) where
   unfolding tips
   tips-none k = sum-zero (λ p. isTip k (node p))
 
-  pub tips-next : (k : Kind) (v : ℕ) → tips k node (v + 1) ≡ tips k node v + isTip k (node v)
+  tips-next : (k : Kind) (v : ℕ) → tips k node (v + 1) ≡ tips k node v + isTip k (node v)
   unfolding tips
   tips-next k v = sum-next (λ p. isTip k (node p)) v
 

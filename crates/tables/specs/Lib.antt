@@ -3,3 +3,4 @@
 pub mod NodeOf
 pub mod Found
 pub mod Marks
+pub mod Visit

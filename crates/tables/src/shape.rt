@@ -1,14 +1,15 @@
 // The tree table: its size, its nodes and the lowest node at fault.
 ghost use mathlib.Core.Path.{_≡_};
-ghost use Prim.Native.Nat.{ℕ, suc, _<_, _≤_};
+ghost use Prim.Native.Nat.{suc, _<_, _≤_};
 ghost use lib.ListN.{length, getD};
 ghost use Rattle.parsimony.specs.Table.{SizeRules, nodeAt, kidsOf, isTip, names, tips, childUses};
+ghost use Rattle.parsimony.specs.Tells.{Tells};
 ghost use Rattle.parsimony.specs.Test.{at};
 ghost use Rattle.parsimony.specs.Tree.{each};
 ghost use Rattle.tables.specs.Found.{Found};
-ghost use Rattle.tables.specs.Marks.{Counted, Raised, Most, MarksKeep, Surveyed, Marked, Visited};
+ghost use Rattle.tables.specs.Marks.{Counted, Most, Raised};
 ghost use Rattle.tables.specs.NodeOf.{nodeOf, kindOf};
-ghost use Rattle.parsimony.specs.Tells.{Tells};
+ghost use Rattle.tables.specs.Visit.{MarksKeep, Surveyed, Marked, Ready, Visited};
 
 // What the table says of a node: a tip with the number of its row, or an inner node with its children.
 pub enum Node {
@@ -39,7 +40,7 @@ pub fn size_fits(left: &[u16], right: &[u16]) -> bool
     if left.len() % 2 == 0 {
         return false;
     }
-    if 1023 < left.len() {
+    if MOST_NODES < left.len() {
         return false;
     }
     true
@@ -91,17 +92,17 @@ pub fn tips_of(left: &[u16], right: &[u16], handed: bool) -> usize
 }
 
 // Adds a use of u to the marks, where they have an entry for it.
-fn add_use(marks: &mut [u16], u: usize)
+fn add_use(marks: &mut [u16; MOST_NODES], u: usize)
     requires { ⌜ Most 65534 (now marks) ⌝ }
     ensures { λ _. ⌜ Raised (λ w. at w 1 u) (now (marks .entry)) (now (marks .exit)) ⌝ }
 {
-    if u < marks.len() {
+    if u < MOST_NODES {
         marks[u] = marks[u] + 1;
     }
 }
 
 // Adds the node's uses of its children.
-fn note_kids(node: Node, marks: &mut [u16])
+fn note_kids(node: Node, marks: &mut [u16; MOST_NODES])
     requires { ⌜ Most 65533 (now marks) ⌝ }
     ensures { λ _. ⌜ Raised (λ w. each (at w 1) (kidsOf (nodeOf node))) (now (marks .entry)) (now (marks .exit)) ⌝ }
 {
@@ -116,7 +117,7 @@ fn note_kids(node: Node, marks: &mut [u16])
 }
 
 // Adds the node's use of its row, where it is a tip of the kind.
-fn note_row(node: Node, handed: bool, marks: &mut [u16])
+fn note_row(node: Node, handed: bool, marks: &mut [u16; MOST_NODES])
     requires { ⌜ Most 65534 (now marks) ⌝ }
     ensures { λ _. ⌜ Raised (λ w. names (kindOf handed) w (nodeOf node)) (now (marks .entry)) (now (marks .exit)) ⌝ }
 {
@@ -136,7 +137,7 @@ fn note_row(node: Node, handed: bool, marks: &mut [u16])
 }
 
 // Counts how often each node is named as a child, from marks that are all 0.
-fn note_children(left: &[u16], right: &[u16], used: &mut [u16])
+fn note_children(left: &[u16], right: &[u16], used: &mut [u16; MOST_NODES])
     requires { ⌜ SizeRules (now left) (now right) ⌝ }
     requires { ⌜ Counted (λ w. 0) (now used) ⌝ }
     ensures { λ _. ⌜ Counted (childUses (nodeAt (now (left .entry)) (now (right .entry))) (length (now (left .entry)))) (now (used .exit)) ⌝ }
@@ -149,8 +150,8 @@ fn note_children(left: &[u16], right: &[u16], used: &mut [u16])
 }
 
 // The row's number is below t, and no lower node has the row.
-fn row_free(r: usize, t: usize, rows: &[u16]) -> bool
-    requires { ⌜ t ≤ length (now rows) ⌝ }
+fn row_free(r: usize, t: usize, rows: &[u16; MOST_NODES]) -> bool
+    requires { ⌜ t ≤ 1023 ⌝ }
     ensures { λ b. ⌜ Tells ((r < t) × (getD (now (rows .entry)) r 0 ≡ 0)) b ⌝ }
 {
     if t <= r {
@@ -163,8 +164,8 @@ fn row_free(r: usize, t: usize, rows: &[u16]) -> bool
 }
 
 // The two children are different, below v, and named by no lower node.
-fn kids_free(a: usize, b: usize, v: usize, seen: &[u16]) -> bool
-    requires { ⌜ v ≤ length (now seen) ⌝ }
+fn kids_free(a: usize, b: usize, v: usize, seen: &[u16; MOST_NODES]) -> bool
+    requires { ⌜ v ≤ 1023 ⌝ }
     ensures { λ r. ⌜ Tells ((a < v) × (b < v) × (a ≡ b → ⊥) × (getD (now (seen .entry)) a 0 ≡ 0) × (getD (now (seen .entry)) b 0 ≡ 0)) r ⌝ }
 {
     if v <= a {
@@ -191,11 +192,11 @@ fn keeps_entries(
     v: usize,
     t: usize,
     h: usize,
-    seen: &[u16],
-    rows: &[u16],
-    given: &[u16],
+    seen: &[u16; MOST_NODES],
+    rows: &[u16; MOST_NODES],
+    given: &[u16; MOST_NODES],
 ) -> bool
-    requires { ⌜ (v ≤ length (now seen)) × (t ≤ length (now rows)) × (h ≤ length (now given)) ⌝ }
+    requires { ⌜ (v ≤ 1023) × (t ≤ 1023) × (h ≤ 1023) ⌝ }
     ensures { λ r. ⌜ Tells (MarksKeep v t h (now (seen .entry)) (now (rows .entry)) (now (given .entry)) (nodeOf node)) r ⌝ }
 {
     match node {
@@ -206,8 +207,8 @@ fn keeps_entries(
 }
 
 // Node v of n is the last, or some node names it as a child.
-fn has_parent(v: usize, n: usize, used: &[u16]) -> bool
-    requires { ⌜ (v < n) × (n ≤ length (now used)) ⌝ }
+fn has_parent(v: usize, n: usize, used: &[u16; MOST_NODES]) -> bool
+    requires { ⌜ (v < n) × (n ≤ 1023) ⌝ }
     ensures { λ r. ⌜ Tells ((suc v < n → 1 ≤ getD (now (used .entry)) v 0)) r ⌝ }
 {
     if v + 1 == n {
@@ -226,14 +227,13 @@ fn visit(
     v: usize,
     t: usize,
     h: usize,
-    used: &[u16],
-    seen: &mut [u16],
-    rows: &mut [u16],
-    given: &mut [u16],
+    used: &[u16; MOST_NODES],
+    seen: &mut [u16; MOST_NODES],
+    rows: &mut [u16; MOST_NODES],
+    given: &mut [u16; MOST_NODES],
 ) -> bool
-    requires { ⌜ (v < length (now left)) × (v < length (now right)) ⌝ }
-    requires { ⌜ Surveyed (length (now left)) (nodeAt (now left) (now right)) t h (now used) ⌝ }
-    requires { ⌜ Marked (nodeAt (now left) (now right)) v (now seen) (now rows) (now given) ⌝ }
+    requires { ⌜ length (now left) ≡ length (now right) ⌝ }
+    requires { ⌜ Ready (length (now left)) (nodeAt (now left) (now right)) v t h (now used) (now seen) (now rows) (now given) ⌝ }
     ensures { λ r. ⌜ Visited (length (now (left .entry))) (nodeAt (now (left .entry)) (now (right .entry))) v (now (seen .exit)) (now (rows .exit)) (now (given .exit)) r ⌝ }
 {
     let node = node_at(left, right, v);
@@ -255,17 +255,17 @@ fn walk(
     right: &[u16],
     t: usize,
     h: usize,
-    used: &[u16],
-    seen: &mut [u16],
-    rows: &mut [u16],
-    given: &mut [u16],
+    used: &[u16; MOST_NODES],
+    seen: &mut [u16; MOST_NODES],
+    rows: &mut [u16; MOST_NODES],
+    given: &mut [u16; MOST_NODES],
 ) -> Tree
     requires { ⌜ length (now left) ≡ length (now right) ⌝ }
     requires { ⌜ Surveyed (length (now left)) (nodeAt (now left) (now right)) t h (now used) ⌝ }
     requires { ⌜ Marked (nodeAt (now left) (now right)) 0 (now seen) (now rows) (now given) ⌝ }
     ensures { λ r. ⌜ Found (length (now (left .entry))) (nodeAt (now (left .entry)) (now (right .entry))) r ⌝ }
 {
-    let mut v: usize = 0;
+    let mut v = 0;
     while v < left.len() {
         if !visit(left, right, v, t, h, used, seen, rows, given) {
             return Tree::FaultAt(v);

@@ -1,44 +1,36 @@
+-- `shape::keeps_entries` meets its contract: in each arm the node is known, and the callee tells just its rule.
+-- Assumes nothing.
 use borrow.Author.Needs.{needs}
 use Rattle.tables.proofs.shape.keeps_entries.Statement.{statement}
 use Rattle.tables.proofs.shape.keeps_entries.Tie as tie
-use Rattle.tables.proofs.shape.keeps_entries.Reads as reads
-use Rattle.tables.proofs.shape.keeps_entries.Lts as lts
-use Rattle.tables.proofs.shape.kids_free.Reads as kids-free-reads
-use Rattle.tables.proofs.shape.row_free.Reads as row-free-reads
 
--- src/shape.rt:196:22
 enum-known-node : tie.Need-enum-known-node
 enum-known-node c = search needs
 
--- src/shape.rt:196:28
 row-free-requires : tie.Need-row-free-requires
 row-free-requires c κs = search needs
 
--- src/shape.rt:197:22
 enum-known-node-2 : tie.Need-enum-known-node-2
 enum-known-node-2 c = search needs
 
--- src/shape.rt:197:28
 row-free-requires-2 : tie.Need-row-free-requires-2
 row-free-requires-2 c κs = search needs
 
--- src/shape.rt:198:21
 enum-known-node-3 : tie.Need-enum-known-node-3
 enum-known-node-3 c = search needs
 
--- src/shape.rt:198:30
 kids-free-requires : tie.Need-kids-free-requires
 kids-free-requires c κs = search needs
 
--- src/shape.rt:191:1
+-- a symbol tip
 returns : tie.Need-returns
 returns c = rw (c .before .before .node .given .1) (c .row-free .ensures)
 
--- src/shape.rt:191:1
+-- a handed tip
 returns-2 : tie.Need-returns-2
 returns-2 c = rw (c .before .before .node2 .given .1) (c .row-free2 .ensures)
 
--- src/shape.rt:191:1
+-- an inner node
 returns-3 : tie.Need-returns-3
 returns-3 c = rw (c .before .before .node3 .given .1) (c .kids-free .ensures)
 

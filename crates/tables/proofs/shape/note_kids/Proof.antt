@@ -1,12 +1,11 @@
+-- `shape::note_kids` meets its contract: a tip adds nothing, and an inner node one use for each child, one after the other.
+-- Assumes nothing.
 use mathlib.Core.Path.{refl}
-use Rattle.tables.proofs.MarkLaws.{raised-none, raised-both, raised-most, most-weak}
 use native.Mathlib.Omega.{arith}
 use borrow.Author.Needs.{needs}
+use Rattle.tables.proofs.MarkLaws.{raised-none, raised-both, raised-most, most-weak}
 use Rattle.tables.proofs.shape.note_kids.Statement.{statement}
 use Rattle.tables.proofs.shape.note_kids.Tie as tie
-use Rattle.tables.proofs.shape.note_kids.Reads as reads
-use Rattle.tables.proofs.shape.note_kids.Lts as lts
-use Rattle.tables.proofs.shape.add_use.Reads as add-use-reads
 
 enum-told : tie.Need-enum-told
 enum-told c = search needs
@@ -14,33 +13,29 @@ enum-told c = search needs
 enum-told-2 : tie.Need-enum-told-2
 enum-told-2 c = search needs
 
--- src/shape.rt:113:21
 enum-known-node : tie.Need-enum-known-node
 enum-known-node c = search needs
 
--- src/shape.rt:114:13
 add-use-requires : tie.Need-add-use-requires
-add-use-requires c κs = most-weak 65534 _ (omega arith) (c .before .before .before .before .before .pre)
+add-use-requires c κs = most-weak 65534 _ (omega arith) (c .before .before .before .before .pre)
 
--- src/shape.rt:115:13
 add-use-requires-2 : tie.Need-add-use-requires-2
-add-use-requires-2 c κs = raised-most 65533 _ _ _ (c .before .before .before .before .before .before .before .before .before .pre) (c .before .before .before .add-use .ensures)
+add-use-requires-2 c κs =
+    raised-most 65533 _ _ _ (c .before .before .before .before .before .before .pre) (c .before .add-use .ensures)
 
--- src/shape.rt:106:1
+-- a symbol tip
 returns : tie.Need-returns
 returns c = rw (c .enum-told .given .1) (raised-none _ _ (λ w i. refl))
 
--- src/shape.rt:106:1
+-- a handed tip
 returns-2 : tie.Need-returns-2
 returns-2 c = rw (c .enum-told2 .given .1) (raised-none _ _ (λ w i. refl))
 
--- src/shape.rt:106:1
-same-length : tie.Need-same-length
-same-length c = search needs
-
--- src/shape.rt:106:1
+-- an inner node
 returns-3 : tie.Need-returns-3
-returns-3 c = rw (c .before .before .before .before .before .before .before .before .before .node .given .1) (raised-both _ _ _ _ _ (c .before .before .before .before .before .before .add-use .ensures) (c .before .before .add-use2 .ensures))
+returns-3 c =
+    rw (c .before .before .before .before .before .node .given .1)
+    (raised-both _ _ _ _ _ (c .before .before .add-use .ensures) (c .add-use2 .ensures))
 
 pub note-kids-spec : {M : Type 1} → statement M
 note-kids-spec =
@@ -53,5 +48,4 @@ note-kids-spec =
     add-use-requires-2
     returns
     returns-2
-    same-length
     returns-3)
