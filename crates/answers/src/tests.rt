@@ -19,12 +19,12 @@ use tables::rules::cells_fit;
 use tables::rules::costs_fit;
 use tables::rules::handed_fit;
 use tables::rules::unit_costs;
-use tables::shape::Node;
-use tables::shape::Tree;
-use tables::shape::check_tree;
-use tables::shape::node_at;
-use tables::shape::size_fits;
-use tables::shape::tips_of;
+use trees::shape::Node;
+use trees::shape::Tree;
+use trees::shape::check_tree;
+use trees::shape::node_at;
+use trees::shape::size_fits;
+use trees::shape::tips_of;
 
 // SIZE, SHAPE, COSTS and CELLS.
 pub fn matrix_tests(

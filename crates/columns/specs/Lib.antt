@@ -2,5 +2,4 @@
 -- Assumes nothing.
 pub mod Ready
 pub mod RowRoom
-pub mod Down
 pub mod Prelims

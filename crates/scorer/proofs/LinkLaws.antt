@@ -20,7 +20,7 @@ use Rattle.answers.specs.CallRules.{tableRules}
 use Rattle.answers.specs.Input.{Input, nodes, column}
 use Rattle.answers.specs.Rules.{All}
 use Rattle.answers.proofs.RootLaws.{rules-legal, rules-node}
-use Rattle.columns.specs.Down.{chosen, settled}
+use Rattle.descents.specs.Down.{chosen, settled}
 use Rattle.columns.specs.Ready.{Ready}
 use Rattle.columns.specs.RowRoom.{Holds}
 use Rattle.steps.specs.Lane.{entryAt, lane, joined, leastSet}

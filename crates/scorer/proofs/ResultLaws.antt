@@ -46,7 +46,7 @@ use Rattle.answers.specs.Rules.{All}
 use Rattle.answers.specs.Starts.{OpenRoot}
 use Rattle.answers.specs.declared.Start.the-variants.{Free, Given}
 use Rattle.answers.proofs.RootLaws.{rules-node, rules-sound}
-use Rattle.columns.specs.Down.{chosen, settled}
+use Rattle.descents.specs.Down.{chosen, settled}
 use Rattle.columns.specs.RowRoom.{Holds}
 use Rattle.steps.specs.Lane.{entryAt}
 use Rattle.steps.specs.Wrote.{Wrote}

@@ -15,7 +15,7 @@ use Rattle.answers.specs.Rules.{All}
 use Rattle.answers.specs.Starts.{StateStart, SetStart}
 use Rattle.answers.specs.declared.Start.{Start}
 use Rattle.answers.specs.declared.Start.the-variants.{Free, Given}
-use Rattle.columns.specs.Down.{chosen, settled}
+use Rattle.descents.specs.Down.{chosen, settled}
 use Rattle.columns.specs.RowRoom.{Holds}
 use Rattle.steps.specs.Lane.{entryAt, leastSet}
 use Rattle.scorer.specs.Results.{IsLabelling, IsSet}

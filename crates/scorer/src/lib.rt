@@ -21,14 +21,14 @@ use answers::tests::label_tests;
 use answers::tests::score_tests;
 use answers::tests::sets_tests;
 use columns::count::fill_prelims;
-use columns::down::fill_sets;
-use columns::down::fill_states;
 use columns::up::fill_rows;
+use descents::fill_sets;
+use descents::fill_states;
 use steps::copy_row;
 use steps::least_entry;
 use steps::least_set;
 use steps::lowest_least;
-use tables::shape::tips_of;
+use trees::shape::tips_of;
 
 // The answer of set counting: the change count, or a refusal.
 pub enum Counted {

@@ -1,5 +1,3 @@
--- Laws of the loops of the tests.
+-- Laws of the loops of the tests of costs, cells and handed rows.
+-- Assumes nothing.
 pub mod RuleSteps
-pub mod ShapeSteps
-pub mod MarkLaws
-pub mod VisitLaws

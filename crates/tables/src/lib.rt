@@ -1,3 +1,2 @@
-// The tests of tables: size, tree, costs, cells and handed rows. Each decides a rule of `parsimony`.
+// The tests of what comes with a tree table: costs, cells and handed rows. Each decides a rule of `parsimony`.
 pub mod rules;
-pub mod shape;

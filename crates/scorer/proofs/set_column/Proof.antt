@@ -8,7 +8,7 @@ use lib.ListN.{length, getD}
 use Rattle.answers.proofs.RootLaws.{rules-node}
 use Rattle.answers.specs.Input.{input, nodes}
 use Rattle.columns.proofs.RowSteps.{ready-calm}
-use Rattle.columns.specs.Down.{settled}
+use Rattle.descents.specs.Down.{settled}
 use Rattle.parsimony.specs.Table.{kidsAt}
 use Rattle.parsimony.specs.Tree.{Descent}
 use Rattle.scorer.proofs.LinkLaws.{rules-ready, rules-state}

@@ -11,7 +11,7 @@ use Rattle.answers.proofs.tests.root_open.Statement.{statement}
 use Rattle.answers.specs.Input.{input, nodes}
 use Rattle.parsimony.proofs.TellsLaws.{tells-same, differ-tells}
 use Rattle.parsimony.specs.Column.{cellAt, handedAt}
-use Rattle.tables.specs.NodeOf.{nodeOf}
+use Rattle.trees.specs.NodeOf.{nodeOf}
 use Rattle.answers.proofs.tests.root_open.Tie as tie
 
 sub-node-at : tie.Need-sub-node-at

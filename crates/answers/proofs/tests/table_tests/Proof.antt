@@ -12,7 +12,7 @@ use Rattle.answers.specs.Input.{input}
 use Rattle.parsimony.proofs.TellsLaws.{unless-yes, unless-no}
 use Rattle.parsimony.specs.Allowed.{HandedRules}
 use Rattle.parsimony.specs.Table.{handed, nodeAt}
-use Rattle.tables.proofs.ShapeSteps.{tips-most}
+use Rattle.trees.proofs.ShapeSteps.{tips-most}
 use Rattle.answers.proofs.tests.table_tests.Tie as tie
 
 matrix-tests-requires : tie.Need-matrix-tests-requires

@@ -7,7 +7,7 @@ use borrow.Author.Needs.{needs}
 use lib.ListN.{length}
 use Rattle.parsimony.specs.Column.{cellAt}
 use Rattle.parsimony.specs.Table.{symbol, handed, Node, leaf, inner, nodeAt}
-use Rattle.tables.specs.NodeOf.{nodeOf}
+use Rattle.trees.specs.NodeOf.{nodeOf}
 use Rattle.columns.proofs.CountSteps.{tip-count, inner-count}
 use Rattle.columns.proofs.PlaceLaws.{cell-inside, kids-below}
 use Rattle.columns.proofs.count.node_count.Statement.{statement}

@@ -7,7 +7,7 @@ use borrow.Author.Needs.{needs}
 use lib.ListN.{length}
 use Rattle.parsimony.specs.Table.{symbol, handed, Node, leaf, inner, nodeAt}
 use Rattle.steps.proofs.WroteLaws.{wrote-same}
-use Rattle.tables.specs.NodeOf.{nodeOf}
+use Rattle.trees.specs.NodeOf.{nodeOf}
 use Rattle.columns.proofs.PlaceLaws.{row-inside, product-fits, cell-inside}
 use Rattle.columns.proofs.RowSteps.{CalmKids, symbol-row, handed-small, handed-in, handed-row, kids-calm, inner-row}
 use Rattle.columns.proofs.up.node_row.Statement.{statement}

@@ -1,0 +1,122 @@
+-- The walk from the root down, node by node from the last to the first, for any values that children get: labels, sets.
+-- Assumes nothing.
+use mathlib.Core.List.{List}
+use mathlib.Core.Logic.{inl, inr, ⊎-elim}
+use mathlib.Core.Path.{_≡_, refl, ap, sym, _∙_, subst}
+use Prim.Native.Nat.{ℕ, _-_, _*_, _≤_, _<_}
+use native.Mathlib.Omega.{arith}
+use lib.ListN.{length, getD, set, length-set}
+use lib.Seq.{getD-set-same, getD-set-other}
+use Rattle.parsimony.specs.Allowed.{CostRules}
+use Rattle.parsimony.specs.Table.{Kind, Node, leaf, inner, kidsOf}
+use Rattle.parsimony.specs.Tree.{Kids, Has, Rooted}
+use Rattle.parsimony.proofs.LeastLaws.{low-within}
+use Rattle.parsimony.proofs.Order.{by-eq, by-lt}
+use Rattle.parsimony.proofs.TreeLaws.{parent-unique, parent-has}
+use Rattle.descents.specs.Down.{chosen, Passed, Descended}
+use Rattle.steps.specs.Lane.{lane}
+
+-- a chosen state is a state
+pub chosen-low : {s : ℕ} {costs : List ℕ} → CostRules s costs → (rows : List ℕ) (u x : ℕ) → chosen s costs rows u x < s
+unfolding chosen
+chosen-low {s} {costs} rules rows u x =
+    let few = rules .fewest in
+    low-within (lane costs (x * s) rows (u * s)) s (omega arith)
+
+-- a tip leaves the list as it is
+pub passed-leaf : {node : Node} {give : ℕ → ℕ → ℕ} {x r : ℕ} {l : List ℕ} (k : Kind) → leaf k r ≡ node
+    → Passed (kidsOf node) give x l l
+passed-leaf {give = give} {x} {l = l} k e =
+    subst (λ node. Passed (kidsOf node) give x l l) e
+    (record { long = refl; child = λ h. absurd h; other = λ i h. refl })
+
+-- an inner node stores both children's values
+pub passed-inner : {node : Node} (give : ℕ → ℕ → ℕ) (a b x y z : ℕ) (l : List ℕ) → inner a b ≡ node
+    → a < length l → b < length l → y ≡ give a x → z ≡ give b x → Passed (kidsOf node) give x l (set (set l a y) b z)
+passed-inner give a b x y z l e ha hb ey ez =
+    subst (λ node. Passed (kidsOf node) give x l (set (set l a y) b z)) e
+    (record {
+      long = length-set (set l a y) b z ∙ length-set l a y;
+      child = λ {u} h. by-eq u b (at-b u) (λ ne. ⊎-elim (at-a u ne) (λ e. absurd (ne e)) h);
+      other = λ i h. getD-set-other (set l a y) b i z 0 (λ e. h (inr e)) ∙ getD-set-other l a i y 0 (λ e. h (inl e));
+    })
+  where
+    at-b : (u : ℕ) → u ≡ b → getD (set (set l a y) b z) u 0 ≡ give u x
+    at-b u e =
+        subst (λ k. getD (set (set l a y) b z) k 0 ≡ give k x) (sym e)
+        (getD-set-same (set l a y) b z 0 (simp length-set hb) ∙ ez)
+
+    at-a : (u : ℕ) → (u ≡ b → ⊥) → u ≡ a → getD (set (set l a y) b z) u 0 ≡ give u x
+    at-a u ne e =
+        getD-set-other (set l a y) b u z 0 ne
+        ∙ subst (λ k. getD (set l a y) k 0 ≡ give k x) (sym e) (getD-set-same l a y 0 ha ∙ ey)
+
+-- The walk over n nodes, from node n - 1 to node v, in a list in which the root had its start: the root still has it,
+-- the children of each node from v on have their values, and nothing past the nodes was written.
+pub record Descending (n : ℕ) (kids : ℕ → Kids) (give : ℕ → ℕ → ℕ) (start v : ℕ) (before now : List ℕ) : Type 0 where
+  pub long : length now ≡ length before
+  pub root : getD now (n - 1) 0 ≡ start
+  pub edge : {p u : ℕ} → v ≤ p → p < n → Has u (kids p) → getD now u 0 ≡ give u (getD now p 0)
+  pub over : (i : ℕ) → n ≤ i → getD now i 0 ≡ getD before i 0
+
+-- at first the root alone has its value
+pub descending-start : (n : ℕ) (kids : ℕ → Kids) (give : ℕ → ℕ → ℕ) (start y : ℕ) (before : List ℕ)
+    → 0 < n → n ≤ length before → y ≡ start
+    → Descending n kids give start n (set before (n - 1) y) (set before (n - 1) y)
+descending-start n kids give start y before some room e =
+    record {
+      long = refl;
+      root = getD-set-same before (n - 1) y 0 (omega arith) ∙ e;
+      edge = λ h k c. absurd (omega arith);
+      over = λ i h. refl;
+    }
+
+-- at last every node has its value
+pub descending-done : {n : ℕ} {kids : ℕ → Kids} {give : ℕ → ℕ → ℕ} {start v : ℕ} {now : List ℕ}
+    (y : ℕ) (before : List ℕ) → 0 < n → v ≤ 0 → Descending n kids give start v (set before (n - 1) y) now
+    → Descended n kids give start before now
+descending-done {n = n} y before some done d =
+    record {
+      long = d .long ∙ length-set before (n - 1) y;
+      values = record { root = d .root; edge = λ h c. d .edge (omega arith) (omega arith) c };
+      over = λ i h. d .over i h ∙ getD-set-other before (n - 1) i y 0 (λ e. omega arith);
+    }
+
+module _ {n : ℕ} {kids : ℕ → Kids} {give : ℕ → ℕ → ℕ} {start v x : ℕ} {before now : List ℕ}
+    (rooted : Rooted (n - 1) kids) (some : 0 < v) (met : v ≤ n) (own : x ≡ getD now (v - 1) 0)
+    (d : Descending n kids give start v before now) where
+  -- passing its value x on takes the walk past node v - 1
+  pub descending-step : {next : List ℕ} → Passed (kids (v - 1)) give x now next
+      → Descending n kids give start (v - 1) before next
+  descending-step {next} passed =
+      record {
+        long = passed .long ∙ d .long;
+        root = kept (n - 1) (omega arith) ∙ d .root;
+        edge = λ {p} {u} h k c. by-eq p (v - 1) (λ e. here p u e c) (λ ne. above p u (omega arith) k c);
+        over = λ i h. kept i (omega arith) ∙ d .over i h;
+      }
+    where
+      kept : (i : ℕ) → v - 1 ≤ i → getD next i 0 ≡ getD now i 0
+      kept i h = passed .other i (λ c. let b = rooted .below (omega arith) c in omega arith)
+
+      here : (p u : ℕ) → p ≡ v - 1 → Has u (kids p) → getD next u 0 ≡ give u (getD next p 0)
+      here p u e c =
+          passed .child (subst (λ q. Has u (kids q)) e c)
+          ∙ ap (give u) (own ∙ ap (λ q. getD now q 0) (sym e) ∙ sym (kept p (omega arith)))
+
+      above : (p u : ℕ) → v ≤ p → p < n → Has u (kids p) → getD next u 0 ≡ give u (getD next p 0)
+      above p u h k c =
+          passed .other u
+          (λ o. let same = parent-unique (n - 1) kids rooted p (v - 1) u (omega arith) (omega arith) c o in omega arith)
+          ∙ d .edge h k c
+          ∙ ap (give u) (sym (kept p (omega arith)))
+
+  -- where the start and every value given are below s, so is the value of node v - 1
+  pub descending-low : {s : ℕ} → start < s → ((u x : ℕ) → give u x < s) → x < s
+  descending-low {s} first gives =
+      by-lt (v - 1) (n - 1)
+      (λ below. let (p, hp, c) = parent-has (n - 1) kids rooted (v - 1) below in
+      let b = rooted .below hp c in
+      subst (λ m. m < s) (sym (own ∙ d .edge (omega arith) (omega arith) c)) (gives (v - 1) (getD now p 0)))
+      (λ top. let e : v - 1 ≡ n - 1 = omega arith in
+      subst (λ m. m < s) (sym (own ∙ ap (λ q. getD now q 0) e ∙ d .root)) first)

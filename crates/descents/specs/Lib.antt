@@ -1,0 +1,3 @@
+-- What the work from the root down promises, over the definitions of `parsimony`.
+-- Assumes nothing.
+pub mod Down

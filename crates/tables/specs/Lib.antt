@@ -1,6 +1,0 @@
--- What the tests of tables say, over the definitions of `parsimony`.
--- Assumes nothing.
-pub mod NodeOf
-pub mod Found
-pub mod Marks
-pub mod Visit

@@ -1,0 +1,64 @@
+-- `shape::tips_of` meets its contract. The invariant: the count is that of the tips among the nodes below v. The
+-- measure is what is left of the nodes.
+-- Assumes nothing.
+use mathlib.Core.Path.{_≡_, sym, ap, _∙_}
+use Prim.Native.Nat.{_≤_, _-_}
+use native.Mathlib.Omega.{arith}
+use borrow.Author.Needs.{needs}
+use lib.ListN.{length}
+use Rattle.parsimony.specs.Table.{nodeAt, tips}
+use Rattle.trees.specs.NodeOf.{kindOf}
+use Rattle.trees.proofs.ShapeSteps.{tips-none, tips-step}
+use Rattle.trees.proofs.shape.tips_of.Statement.{statement}
+use Rattle.trees.proofs.shape.tips_of.Tie as tie
+
+abbrev Inv-loop : tie.InvT-loop
+Inv-loop left right handed count₀ v₀ count v = (v ≤ length left) × (count ≡ tips (kindOf handed) (nodeAt left right) v)
+
+abbrev μ-loop : tie.MeasureT-loop
+μ-loop left right handed count₀ v₀ count v = length left - v
+
+loop-holds : tie.Need-loop-holds Inv-loop μ-loop
+loop-holds c = (omega arith, sym (tips-none _ _))
+
+node-at-requires : tie.Need-node-at-requires Inv-loop μ-loop
+node-at-requires c κs = omega (arith, c .before .before .before .before .pre .equal)
+
+tip-of-requires : tie.Need-tip-of-requires Inv-loop μ-loop
+tip-of-requires c κs = search needs
+
+add-count : tie.Need-add-count Inv-loop μ-loop
+add-count c =
+    let turn = c .before .before .before in
+    let step = tips-step _ _ _ _ _ _ (c .before .node-at .ensures) (turn .loop .inv .1) (c .tip-of .ensures) in
+    omega (arith, turn .before .before .before .pre .most)
+
+add-v : tie.Need-add-v Inv-loop μ-loop
+add-v c = search needs
+
+loop-less : tie.Need-loop-less Inv-loop μ-loop
+loop-less c = search needs
+
+loop-again : tie.Need-loop-again Inv-loop μ-loop
+loop-again c =
+    let turn = c .before .before .before in
+    let step = tips-step _ _ _ _ _ _ (c .before .node-at .ensures) (turn .loop .inv .1) (c .tip-of .ensures) in
+    (omega arith, step .0)
+
+returns : tie.Need-returns Inv-loop μ-loop
+returns c = c .before .loop .inv .1 ∙ ap (tips _ _) (omega arith)
+
+pub tips-of-spec : {M : Type 1} → statement M
+tips-of-spec =
+    tie.close
+    (tie.spec
+    Inv-loop
+    μ-loop
+    loop-holds
+    node-at-requires
+    tip-of-requires
+    add-count
+    add-v
+    loop-less
+    loop-again
+    returns)
