@@ -73,9 +73,9 @@ pub fn choose(costs: &[u16], from: usize, rows: &[u32], at: usize, s: usize) -> 
     let mut lowest = 0;
     let mut y = 1;
     while y < s {
-        let here = through(costs, from, rows, at, s, y);
-        if here < best {
-            best = here;
+        let sum = through(costs, from, rows, at, s, y);
+        if sum < best {
+            best = sum;
             lowest = y;
         }
         y += 1;

@@ -2,6 +2,7 @@
 -- Assumes nothing.
 use mathlib.Core.Path.{refl}
 use borrow.Author.Needs.{needs}
+use native.Mathlib.Omega.{arith}
 use lib.ListN.{length}
 use Rattle.answers.proofs.RuleLaws.{done-all}
 use Rattle.scorer.proofs.AnswerLaws.{given-refused, given-done}
@@ -25,7 +26,7 @@ fill-prelims-requires : tie.Need-fill-prelims-requires
 fill-prelims-requires c κs =
     let r = done-all _ _ _ _ (c .before .before .before .count-tests .ensures) (c .before .enum-told .given .1) in (
       (count-legal (c .before .before .before .before .before .before .before .before .before .args .left .now) (c .before .before .before .before .before .before .before .before .before .args .right .now) (c .before .before .before .before .before .before .before .before .before .args .s) (c .before .before .before .before .before .before .before .before .before .args .costs .now) (c .before .before .before .before .before .before .before .before .before .args .c) (c .before .before .before .before .before .before .before .before .before .args .cells .now) (c .before .before .before .before .before .before .before .before .before .args .j) (length (c .before .before .before .before .before .before .before .before .before .args .sets .now)) r, r .1 .1 .1 .1 .1 .1 .0 .1),
-      ((r .1 .1 .1 .0 .count, r .1 .1 .1 .1 .1 .0, r .1 .1 .1 .0 .columns), r .1 .1 .1 .1 .1 .1 .1 .0),
+      ((r .1 .1 .1 .0 .count, omega (arith, r .1 .1 .1 .1 .1 .0), r .1 .1 .1 .0 .columns), r .1 .1 .1 .1 .1 .1 .1 .0),
     )
 
 same-length : tie.Need-same-length

@@ -28,7 +28,7 @@ root-place-requires c κs =
     let I = (input (c .before .before .before .before .before .before .before .before .before .before .before .before .before .args .left .now) (c .before .before .before .before .before .before .before .before .before .before .before .before .before .args .right .now) (c .before .before .before .before .before .before .before .before .before .before .before .before .before .args .s) (c .before .before .before .before .before .before .before .before .before .before .before .before .before .args .costs .now) (c .before .before .before .before .before .before .before .before .before .before .before .before .before .args .c) (c .before .before .before .before .before .before .before .before .before .before .before .before .before .args .cells .now) (c .before .before .before .before .before .before .before .before .before .before .before .before .before .args .handed .now)) in
     let parts = hand-up-parts I (c .before .before .before .before .before .before .before .before .before .before .before .before .before .args .j) (length (c .before .before .before .before .before .before .before .before .before .before .before .before .before .args .row .now)) (length (c .before .before .before .before .before .before .before .before .before .before .before .before .before .args .rows .now)) (c .before .before .before .before .before .before .before .before .before .before .before .before .before .pre) in
     let t = parts .table in
-    (rules-node I t, t .0 .most, t .1 .1 .0 .most)
+    (omega (arith, rules-node I t), omega (arith, t .0 .most), t .1 .1 .0 .most)
 
 copy-row-requires : tie.Need-copy-row-requires
 copy-row-requires c κs =

@@ -24,7 +24,7 @@ root-place-requires : tie.Need-root-place-requires
 root-place-requires c κs =
     let I = (input (c .before .before .before .before .before .before .before .before .before .before .before .args .left .now) (c .before .before .before .before .before .before .before .before .before .before .before .args .right .now) (c .before .before .before .before .before .before .before .before .before .before .before .args .s) (c .before .before .before .before .before .before .before .before .before .before .before .args .costs .now) (c .before .before .before .before .before .before .before .before .before .before .before .args .c) (c .before .before .before .before .before .before .before .before .before .before .before .args .cells .now) (c .before .before .before .before .before .before .before .before .before .before .before .args .handed .now)) in
     let parts = score-parts I _ (length (c .before .before .before .before .before .before .before .before .before .before .before .args .rows .now)) (c .before .before .before .before .before .before .before .before .before .before .before .pre .0) in
-    (rules-node I (parts .table), parts .table .0 .most, parts .table .1 .1 .0 .most)
+    (omega (arith, rules-node I (parts .table)), omega (arith, parts .table .0 .most), parts .table .1 .1 .0 .most)
 
 least-entry-requires : tie.Need-least-entry-requires
 least-entry-requires c κs =

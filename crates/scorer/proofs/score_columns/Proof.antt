@@ -31,7 +31,7 @@ score-column-requires c κs =
     let t = parts .table in
     let room = parts .room in (
       (t .0, (t .1 .0, (t .1 .1 .0, (t .1 .1 .1 .0, (t .1 .1 .1 .1 .0, (tt, (tt, ((le-refl _, omega arith), tt)))))))),
-      (c .before .loop-test .taken, c .before .before .before .tips-of .ensures),
+      (omega arith, c .before .before .before .tips-of .ensures),
     )
 
 mul-scores : tie.Need-mul-scores Inv-loop μ-loop

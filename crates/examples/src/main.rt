@@ -1,0 +1,323 @@
+// The paper's edges of the table calls: each refusal at its edge, and what is done beside it. A line has what is tried
+// and the code that comes back: the number, and for SHAPE the node above its 8 bits.
+ghost use mathlib.Core.Path.{_≡_};
+ghost use Prim.Native.Nat.{_<_, _≤_};
+ghost use lib.ListN.{length};
+use calls::fernijster_count;
+use calls::fernijster_hand_up;
+use calls::fernijster_label;
+use calls::fernijster_score;
+use calls::fernijster_sets;
+
+const NO_START: u64 = 18446744073709551615;
+
+// One line: what is tried, and the code.
+fn show(what: &[u8], code: u64) {
+    io::write_all(1, what);
+    io::write_all(1, b" ");
+    io::print_decimal(1, code);
+    io::write_all(1, b"\n");
+}
+
+// The left entry of node v of a comb: even nodes from 2 on join the two nodes before them.
+fn left_of(v: u16) -> u16 {
+    if v % 2 == 1 {
+        return 65535;
+    }
+    if v < 2 {
+        return 65535;
+    }
+    v - 2
+}
+
+// The right entry of node v of a comb: the other child, or the tip's row.
+fn right_of(v: u16) -> u16
+    requires { ⌜ v < 1025 ⌝ }
+{
+    if v % 2 == 1 {
+        return (v + 1) / 2;
+    }
+    if v < 2 {
+        return 0;
+    }
+    v - 1
+}
+
+// A comb of as many nodes as the lists have.
+fn comb(left: &mut [u16], right: &mut [u16])
+    requires { ⌜ (length (now left) ≡ 1025) × (length (now right) ≡ 1025) ⌝ }
+{
+    let mut v: u16 = 0;
+    while v < 1025 {
+        left[v as usize] = left_of(v);
+        right[v as usize] = right_of(v);
+        v += 1;
+    }
+}
+
+// Scoring the first n nodes of a tree, every tip in state 0.
+fn score_first(left: &[u16], right: &[u16], cells: &[u16], n: usize) -> u64
+    requires { ⌜ (n ≤ length (now left)) × (n ≤ length (now right)) × (n ≤ length (now cells)) ⌝ }
+{
+    let mut scores = [7u32; 1];
+    let mut rows = [7u32; 2050];
+    let tips = n / 2 + n % 2;
+    fernijster_score(
+        &left[..n],
+        &right[..n],
+        2,
+        &[0, 1, 1, 0],
+        1,
+        &cells[..tips],
+        &[],
+        &mut scores,
+        &mut rows,
+    )
+}
+
+// Scoring the first n nodes of a comb.
+fn score_comb(n: usize) -> u64
+    requires { ⌜ n < 1026 ⌝ }
+{
+    let mut left = [0u16; 1025];
+    let mut right = [0u16; 1025];
+    comb(&mut left, &mut right);
+    score_first(&left, &right, &[1; 1025], n)
+}
+
+fn sizes() {
+    show(b"n = 0:", score_comb(0));
+    show(b"n = 1:", score_comb(1));
+    show(b"n = 2:", score_comb(2));
+    show(b"n = 1,023:", score_comb(1023));
+    show(b"n = 1,025:", score_comb(1025));
+}
+
+// Scoring a table of two tips under a root with unit costs of two states.
+fn score_two(left: &[u16], right: &[u16]) -> u64 {
+    let mut scores = [7u32; 1];
+    let mut rows = [7u32; 6];
+    fernijster_score(
+        left,
+        right,
+        2,
+        &[0, 1, 1, 0],
+        1,
+        &[1, 2],
+        &[],
+        &mut scores,
+        &mut rows,
+    )
+}
+
+fn shapes() {
+    show(b"lists of 3 and 1:", score_two(&[65535, 65535, 0], &[0]));
+    show(b"two tips:", score_two(&[65535, 65535, 0], &[0, 1, 1]));
+    show(
+        b"row 2 of 2 at node 1:",
+        score_two(&[65535, 65535, 0], &[0, 2, 1]),
+    );
+    show(b"row 0 twice:", score_two(&[65535, 65535, 0], &[0, 0, 1]));
+    show(
+        b"a child not below:",
+        score_two(&[65535, 65535, 0], &[0, 1, 2]),
+    );
+    show(b"a child twice:", score_two(&[65535, 65535, 1], &[0, 1, 1]));
+}
+
+// Scoring a table of one tip.
+fn score_tip(right: u16, s: u64, costs: &[u16], c: u64, cells: &[u16], handed: &[u32]) -> u64 {
+    let mut scores = [7u32; 1];
+    let mut rows = [7u32; 17];
+    fernijster_score(
+        &[65535],
+        &[right],
+        s,
+        costs,
+        c,
+        cells,
+        handed,
+        &mut scores,
+        &mut rows,
+    )
+}
+
+fn costs() {
+    show(b"s = 1:", score_tip(0, 1, &[0], 1, &[1], &[]));
+    show(b"s = 16:", score_tip(0, 16, &[0; 256], 1, &[65535], &[]));
+    show(b"s = 17:", score_tip(0, 17, &[0; 289], 1, &[1], &[]));
+    show(b"cost 999:", score_tip(0, 2, &[0, 999, 1, 0], 1, &[1], &[]));
+    show(
+        b"cost 1,000:",
+        score_tip(0, 2, &[0, 1000, 1, 0], 1, &[1], &[]),
+    );
+    show(b"three costs:", score_tip(0, 2, &[0, 1, 1], 1, &[1], &[]));
+    show(b"diagonal 1:", score_tip(0, 2, &[0, 1, 1, 1], 1, &[1], &[]));
+}
+
+fn cells() {
+    show(b"c = 0:", score_tip(0, 2, &[0, 1, 1, 0], 0, &[], &[]));
+    show(
+        b"c = 65,536, no tip a symbol:",
+        score_tip(32768, 2, &[0, 1, 1, 0], 65536, &[], &[]),
+    );
+    show(b"no cell:", score_tip(0, 2, &[0, 1, 1, 0], 1, &[], &[]));
+    show(
+        b"an empty cell:",
+        score_tip(0, 2, &[0, 1, 1, 0], 1, &[0], &[]),
+    );
+    show(
+        b"both states:",
+        score_tip(0, 2, &[0, 1, 1, 0], 1, &[3], &[]),
+    );
+    show(
+        b"state 2 of 2:",
+        score_tip(0, 2, &[0, 1, 1, 0], 1, &[4], &[]),
+    );
+}
+
+fn handed() {
+    show(
+        b"handed 1,020,978:",
+        score_tip(32768, 2, &[0, 1, 1, 0], 1, &[], &[1020978, 4294967295]),
+    );
+    show(
+        b"handed 1,020,979:",
+        score_tip(32768, 2, &[0, 1, 1, 0], 1, &[], &[1020979, 4294967295]),
+    );
+    show(
+        b"handed, wholly barred:",
+        score_tip(32768, 2, &[0, 1, 1, 0], 1, &[], &[4294967295, 4294967295]),
+    );
+    show(
+        b"handed, one entry:",
+        score_tip(32768, 2, &[0, 1, 1, 0], 1, &[], &[0]),
+    );
+    show(
+        b"handed to no tip:",
+        score_tip(0, 2, &[0, 1, 1, 0], 1, &[1], &[0, 0]),
+    );
+}
+
+// Labelling one tip of state 0 of two.
+fn label_tip(column: u64, start: u64) -> u64 {
+    let mut states = [7u8; 1];
+    let mut rows = [7u32; 2];
+    fernijster_label(
+        &[65535],
+        &[0],
+        2,
+        &[0, 1, 1, 0],
+        1,
+        &[1],
+        &[],
+        column,
+        start,
+        &mut states,
+        &mut rows,
+    )
+}
+
+// The set of one tip of state 0 of two.
+fn set_tip(column: u64, start: u64) -> u64 {
+    let mut sets = [7u16; 1];
+    let mut rows = [7u32; 2];
+    fernijster_sets(
+        &[65535],
+        &[0],
+        2,
+        &[0, 1, 1, 0],
+        1,
+        &[1],
+        &[],
+        column,
+        start,
+        &mut sets,
+        &mut rows,
+    )
+}
+
+fn starts() {
+    show(b"column 0 of 1:", label_tip(0, NO_START));
+    show(b"column 1 of 1:", label_tip(1, NO_START));
+    show(b"start 0:", label_tip(0, 0));
+    show(b"start 1, barred at the root:", label_tip(0, 1));
+    show(b"start 2 of 2:", label_tip(0, 2));
+    show(b"start set {0}:", set_tip(0, 1));
+    show(b"start set {0,1}, 1 barred at the root:", set_tip(0, 3));
+    show(b"start set {2} of 2:", set_tip(0, 4));
+    show(b"an empty start set:", set_tip(0, 0));
+    show(b"column 1 of 1, sets:", set_tip(1, NO_START));
+}
+
+// Counting one tip by sets.
+fn count_tip(right: u16, costs: &[u16], cells: &[u16], column: u64) -> u64 {
+    let mut sets = [7u16; 1];
+    fernijster_count(&[65535], &[right], 2, costs, 1, cells, column, &mut sets)
+}
+
+fn counts() {
+    show(
+        b"counting, unit costs:",
+        count_tip(0, &[0, 1, 1, 0], &[1], 0),
+    );
+    show(
+        b"counting, column 1 of 1:",
+        count_tip(0, &[0, 1, 1, 0], &[1], 1),
+    );
+    show(
+        b"counting, a cost of 2:",
+        count_tip(0, &[0, 2, 1, 0], &[1], 0),
+    );
+    show(
+        b"counting, a handed tip:",
+        count_tip(32768, &[0, 1, 1, 0], &[], 0),
+    );
+}
+
+// Handing up one tip, with room for so many entries.
+fn hand_up_tip(row: &mut [u32], rows: &mut [u32]) -> u64 {
+    fernijster_hand_up(&[65535], &[0], 2, &[0, 1, 1, 0], 1, &[1], &[], 0, row, rows)
+}
+
+fn rooms() {
+    show(
+        b"room for 2 entries and 2 row entries:",
+        hand_up_tip(&mut [7; 2], &mut [7; 2]),
+    );
+    show(b"room for 1 entry:", hand_up_tip(&mut [7; 1], &mut [7; 2]));
+    show(
+        b"room for 1 row entry:",
+        hand_up_tip(&mut [7; 2], &mut [7; 1]),
+    );
+    show(b"column 1 of 1, no room:", label_room(1));
+    show(b"column 0 of 1, no room:", label_room(0));
+}
+
+// Labelling with no room: WHICH comes before ROOM.
+fn label_room(column: u64) -> u64 {
+    fernijster_label(
+        &[65535],
+        &[0],
+        2,
+        &[0, 1, 1, 0],
+        1,
+        &[1],
+        &[],
+        column,
+        NO_START,
+        &mut [],
+        &mut [],
+    )
+}
+
+fn main() {
+    sizes();
+    shapes();
+    costs();
+    cells();
+    handed();
+    starts();
+    counts();
+    rooms();
+}
