@@ -16,6 +16,8 @@ const TIPS: usize = 512;
 const NODES: usize = 2 * TIPS - 1;
 const COLUMNS: usize = 2_000;
 const ROUNDS: usize = 5;
+/// A difference of two times that is shorter says nothing.
+const SHORTEST: Duration = Duration::from_millis(1);
 
 fn main() {
     for s in [4, 16] {
@@ -107,7 +109,11 @@ fn bench_sets(s: usize) {
     let (rows_tests, sets_tests) = race(|| by_rows(0), || by_sets(0));
     let (rows_work, sets_work) = (rows.saturating_sub(rows_tests), sets.saturating_sub(sets_tests));
     println!("unit costs, s = {s}: {}", ratio("by rows", rows, "by sets", sets));
-    println!("unit costs, s = {s}, without the tests: {}", ratio("by rows", rows_work, "by sets", sets_work));
+    if sets_work < SHORTEST {
+        println!("unit costs, s = {s}, without the tests: too short to tell");
+    } else {
+        println!("unit costs, s = {s}, without the tests: {}", ratio("by rows", rows_work, "by sets", sets_work));
+    }
 }
 
 /// The best time of each of two, turn by turn. Their answers must be the same.
