@@ -1,11 +1,11 @@
 -- The parts of a call's rules, and the place of the root's row.
 -- Assumes nothing.
-use mathlib.Core.List.{[]}
+use mathlib.Core.List.{[], _∷_}
 use mathlib.Core.Path.{_≡_, ap}
 use Prim.Native.Nat.{ℕ, suc, _+_, _*_, _-_, _≤_, _<_}
 use native.Mathlib.Nat.{suc-mul}
 use native.Mathlib.Omega.{arith}
-use Rattle.answers.specs.CallRules.{tableRules, scoreRules, labelRules, setsRules, handUpRules, Fits}
+use Rattle.answers.specs.CallRules.{tableRules, scoreRules, labelRules, setsRules, handUpRules, Fits, Untested}
 use Rattle.answers.specs.Input.{Input, nodes}
 use Rattle.answers.specs.Rules.{All}
 use Rattle.answers.specs.Starts.{StateStart, SetStart}
@@ -17,39 +17,28 @@ pub record Parts (I : Input) (Which Room : Type 0) : Type 0 where
   pub which : Which
   pub room : Room
 
-pub score-parts : (I : Input) (a b : ℕ) → All (scoreRules I a b) → Parts I (Unit {0}) (Fits I (I .c) a b)
-score-parts I a b r =
+-- of any call's rules: the column and the start are tested sixth, and the room eighth
+parts-of : (I : Input) (Which Room : Type 0) → All (tableRules I (Which ∷ Untested ∷ Room ∷ [])) → Parts I Which Room
+parts-of I Which Room r =
     record {
       table = (r .0, (r .1 .0, (r .1 .1 .0, (r .1 .1 .1 .0, (r .1 .1 .1 .1 .0, tt)))));
-      which = tt;
+      which = r .1 .1 .1 .1 .1 .0;
       room = r .1 .1 .1 .1 .1 .1 .1 .0;
     }
+
+pub score-parts : (I : Input) (a b : ℕ) → All (scoreRules I a b) → Parts I Untested (Fits I (I .c) a b)
+score-parts I a b = parts-of I Untested (Fits I (I .c) a b)
 
 pub label-parts : (I : Input) (j : ℕ) (start : Start) (a b : ℕ) → All (labelRules I j start a b)
     → Parts I ((j < I .c) × StateStart I j start) (Fits I (nodes I) a b)
-label-parts I j start a b r =
-    record {
-      table = (r .0, (r .1 .0, (r .1 .1 .0, (r .1 .1 .1 .0, (r .1 .1 .1 .1 .0, tt)))));
-      which = r .1 .1 .1 .1 .1 .0;
-      room = r .1 .1 .1 .1 .1 .1 .1 .0;
-    }
+label-parts I j start a b = parts-of I ((j < I .c) × StateStart I j start) (Fits I (nodes I) a b)
 
 pub sets-parts : (I : Input) (j : ℕ) (start : Start) (a b : ℕ) → All (setsRules I j start a b)
     → Parts I ((j < I .c) × SetStart I j start) (Fits I (nodes I) a b)
-sets-parts I j start a b r =
-    record {
-      table = (r .0, (r .1 .0, (r .1 .1 .0, (r .1 .1 .1 .0, (r .1 .1 .1 .1 .0, tt)))));
-      which = r .1 .1 .1 .1 .1 .0;
-      room = r .1 .1 .1 .1 .1 .1 .1 .0;
-    }
+sets-parts I j start a b = parts-of I ((j < I .c) × SetStart I j start) (Fits I (nodes I) a b)
 
 pub hand-up-parts : (I : Input) (j a b : ℕ) → All (handUpRules I j a b) → Parts I (j < I .c) (Fits I (I .s) a b)
-hand-up-parts I j a b r =
-    record {
-      table = (r .0, (r .1 .0, (r .1 .1 .0, (r .1 .1 .1 .0, (r .1 .1 .1 .1 .0, tt)))));
-      which = r .1 .1 .1 .1 .1 .0;
-      room = r .1 .1 .1 .1 .1 .1 .1 .0;
-    }
+hand-up-parts I j a b = parts-of I (j < I .c) (Fits I (I .s) a b)
 
 -- the root's row lies in the row room
 pub root-inside : (n s len at : ℕ) → 0 < n → n * s ≤ len → at ≡ (n - 1) * s → at + s ≤ len

@@ -5,7 +5,7 @@ use borrow.Author.Needs.{needs}
 use native.Mathlib.Omega.{arith}
 use lib.ListN.{length}
 use Rattle.answers.proofs.RuleLaws.{done-all}
-use Rattle.scorer.proofs.AnswerLaws.{given-refused, given-done}
+use Rattle.scorer.proofs.AnswerLaws.{given-same}
 use Rattle.scorer.proofs.CountResult.{count-legal, count-right}
 use Rattle.scorer.proofs.count.Statement.{statement}
 use Rattle.scorer.proofs.count.Tie as tie
@@ -17,7 +17,7 @@ enum-known-answer : tie.Need-enum-known-answer
 enum-known-answer c = search needs
 
 returns : tie.Need-returns
-returns c = record { answer = given-refused (c .before .before .before .count-tests .ensures) (c .before .answer .given .1); lists = refl }
+returns c = record { answer = given-same (c .before .before .before .count-tests .ensures) (c .before .answer .given .1); lists = refl }
 
 enum-told : tie.Need-enum-told
 enum-told c = search needs
@@ -36,7 +36,7 @@ returns-2 : tie.Need-returns-2
 returns-2 c =
     let r = done-all _ _ _ _ (c .before .before .before .before .before .before .count-tests .ensures) (c .before .before .before .before .enum-told .given .1) in
     record {
-      answer = given-done (c .before .before .before .before .before .before .count-tests .ensures) (c .before .before .before .before .enum-told .given .1);
+      answer = given-same (c .before .before .before .before .before .before .count-tests .ensures) (c .before .before .before .before .enum-told .given .1);
       lists = count-right (c .before .before .before .before .before .before .before .before .before .before .before .before .args .left .now) (c .before .before .before .before .before .before .before .before .before .before .before .before .args .right .now) (c .before .before .before .before .before .before .before .before .before .before .before .before .args .s) (c .before .before .before .before .before .before .before .before .before .before .before .before .args .costs .now) (c .before .before .before .before .before .before .before .before .before .before .before .before .args .c) (c .before .before .before .before .before .before .before .before .before .before .before .before .args .cells .now) (c .before .before .before .before .before .before .before .before .before .before .before .before .args .j) (length (c .before .before .before .before .before .before .before .before .before .before .before .before .args .sets .now)) _ _ _ r (c .before .before .fill-prelims .ensures);
     }
 

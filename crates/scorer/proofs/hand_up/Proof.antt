@@ -3,7 +3,7 @@
 use mathlib.Core.Path.{refl}
 use borrow.Author.Needs.{needs}
 use Rattle.answers.proofs.RuleLaws.{done-all}
-use Rattle.scorer.proofs.AnswerLaws.{given-refused, given-done}
+use Rattle.scorer.proofs.AnswerLaws.{given-same}
 use Rattle.scorer.proofs.hand_up.Statement.{statement}
 use Rattle.scorer.proofs.hand_up.Tie as tie
 
@@ -14,7 +14,7 @@ enum-known-answer : tie.Need-enum-known-answer
 enum-known-answer c = search needs
 
 returns : tie.Need-returns
-returns c = record { answer = given-refused (c .before .before .before .hand-up-tests .ensures) (c .before .answer .given .1); lists = (refl, refl) }
+returns c = record { answer = given-same (c .before .before .before .hand-up-tests .ensures) (c .before .answer .given .1); lists = (refl, refl) }
 
 enum-told : tie.Need-enum-told
 enum-told c = search needs
@@ -29,7 +29,7 @@ same-length-2 : tie.Need-same-length-2
 same-length-2 c = search needs
 
 returns-2 : tie.Need-returns-2
-returns-2 c = record { answer = given-done (c .before .before .before .before .before .before .before .before .before .hand-up-tests .ensures) (c .before .before .before .before .before .before .before .enum-told .given .1); lists = c .before .before .before .before .row-column .ensures }
+returns-2 c = record { answer = given-same (c .before .before .before .before .before .before .before .before .before .hand-up-tests .ensures) (c .before .before .before .before .before .before .before .enum-told .given .1); lists = c .before .before .before .before .row-column .ensures }
 
 pub hand-up-spec : {M : Type 1} → statement M
 hand-up-spec =
