@@ -29,7 +29,7 @@ root-unique P Free l m f g = lowest-least-unique (row P (P .last)) (P .states) (
 root-unique P (Given x) l m f g = f .root ∙ sym (g .root)
 
 -- and, in a tree, the same state at every node
-label-unique : (P : Column) → Rooted (P .last) (P .kids) → (start : Start) (l m : ℕ → ℕ) → IsLabelling P start l
+pub label-unique : (P : Column) → Rooted (P .last) (P .kids) → (start : Start) (l m : ℕ → ℕ) → IsLabelling P start l
     → IsLabelling P start m → (v : ℕ) → v ≤ P .last → l v ≡ m v
 label-unique P tree start l m f g = downward (P .last) _ go
   where

@@ -156,7 +156,7 @@ score-outcome I scores rows a b s1 r1 s2 r2 f g =
     ))
 
 -- a node has one set
-set-unique : (P : Column) (start : Start) (v w z : ℕ) → IsSet P start v w → IsSet P start v z → w ≡ z
+pub set-unique : (P : Column) (start : Start) (v w z : ℕ) → IsSet P start v w → IsSet P start v z → w ≡ z
 set-unique P start v w z f g =
     set-same (P .states) w z (f .within) (g .within)
     (λ y h. ((λ m. g .members y .1 (f .members y .0 m)), (λ m. f .members y .1 (g .members y .0 m))))
@@ -172,7 +172,7 @@ sets-outcome I j start sets rows a b s1 r1 s2 r2 f g =
     ))
 
 -- a state has one entry
-entry-unique : (P : Column) (x d e : ℕ) → IsEntry P x d → IsEntry P x e → d ≡ e
+pub entry-unique : (P : Column) (x d e : ℕ) → IsEntry P x d → IsEntry P x e → d ≡ e
 entry-unique P x d e f g =
     by-eq d barred
     (λ bar. by-eq e barred (λ same. bar ∙ sym same)

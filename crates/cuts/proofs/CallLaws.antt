@@ -1,0 +1,129 @@
+-- Calls on a table that may be cut are done, and their results are those of the definitions by rows.
+-- Assumes nothing.
+use mathlib.Core.List.{List, []}
+use mathlib.Core.Path.{_≡_, refl, _∙_, subst}
+use Prim.Native.Nat.{ℕ, _-_, _<_}
+use native.Mathlib.Omega.{arith}
+use lib.ListN.{getD}
+use Rattle.parsimony.specs.Allowed.{mostHanded}
+use Rattle.parsimony.specs.Column.{Column, columnOf}
+use Rattle.parsimony.specs.Label.{labelFrom, freeStart, label}
+use Rattle.parsimony.specs.Least.{lowest}
+use Rattle.parsimony.specs.NodeSet.{setsFrom, freeSet, sets}
+use Rattle.parsimony.specs.Row.{row, score}
+use Rattle.parsimony.specs.Sound.{Sound}
+use Rattle.parsimony.proofs.LeastLaws.{lowest-rule}
+use Rattle.parsimony.proofs.Scoring.{score-unique, score-least, label-least, label-root-lowest, label-child-lowest, child-lowest, rule-forced, set-exactly, set-from-exactly, set-within}
+use Rattle.parsimony.proofs.SetLaws.{sets-within}
+use Rattle.answers.specs.CallRules.{tableRules}
+use Rattle.answers.specs.Input.{Input, nodes, column}
+use Rattle.answers.specs.Rules.{All}
+use Rattle.answers.specs.Starts.{StateStart, SetStart}
+use Rattle.answers.specs.declared.Answer.{Answer}
+use Rattle.answers.specs.declared.Answer.the-variants.{Done, Refused}
+use Rattle.answers.specs.declared.Start.{Start}
+use Rattle.answers.specs.declared.Start.the-variants.{Free, Given}
+use Rattle.answers.proofs.RootLaws.{rules-sound}
+use Rattle.answers.proofs.RuleLaws.{all-not-first}
+use Rattle.scorer.specs.Promises.{Scored, Labelled, SetsFound, HandedUp}
+use Rattle.scorer.specs.Results.{IsLabelling, IsSet}
+use Rattle.scorer.specs.Starts.{stateOf}
+use Rattle.scorer.proofs.LabelOutcomes.{label-unique}
+use Rattle.scorer.proofs.Outcomes.{set-unique, entry-unique}
+use Rattle.scorer.proofs.ResultLaws.{row-entry}
+use Rattle.cuts.specs.Call.{ScoreCall, HandUpCall, LabelCall, SetsCall}
+use Rattle.answers.specs.Answers as Answers
+use Rattle.cuts.specs.Call as Call
+
+-- where every rule of a call holds, its answer is done
+given-done : (rules : List (Type 0)) (left right : List ℕ) (a : Answer) → All rules → Answers.Given rules left right a → a ≡ Done
+given-done rules left right Done all g = refl
+given-done rules left right (Refused r) all g = absurd (all-not-first rules _ all (g .given .0))
+
+-- No call on a table that keeps the rules is refused, given room, a column and a start.
+pub rules-answer : (I : Input) → All (tableRules I []) → Call.Answers I
+rules-answer I r =
+    let r1 = r .0 in
+    let r2 = r .1 .0 in
+    let r3 = r .1 .1 .0 in
+    let r4 = r .1 .1 .1 .0 in
+    let r5 = r .1 .1 .1 .1 .0 in
+    record {
+      score = λ scores rows room a. given-done _ (I .left) (I .right) a (r1, (r2, (r3, (r4, (r5, (tt, (tt, (room, tt))))))));
+      label = λ j start states rows hj hs room a. given-done _ (I .left) (I .right) a
+          (r1, (r2, (r3, (r4, (r5, ((hj, hs), (tt, (room, tt))))))));
+      sets = λ j start sets rows hj hs room a. given-done _ (I .left) (I .right) a
+          (r1, (r2, (r3, (r4, (r5, ((hj, hs), (tt, (room, tt))))))));
+      handUp = λ j row rows hj room a. given-done _ (I .left) (I .right) a
+          (r1, (r2, (r3, (r4, (r5, (hj, (tt, (room, tt))))))));
+    }
+
+module _ (I : Input) (rules : All (tableRules I [])) (j : ℕ) (inside : j < I .c) where
+  abbrev P : Column
+  P = column I j
+
+  sound : Sound mostHanded P
+  sound = rules-sound I rules j inside
+
+  -- the labelling by rows is that of the start
+  pub labelling-of : (start : Start) → StateStart I j start
+      → IsLabelling P start (labelFrom lowest P (stateOf start (freeStart P)))
+  unfolding columnOf label
+  labelling-of Free ok =
+      record {
+        least = (label-least mostHanded P sound, label-root-lowest mostHanded P sound);
+        children = λ p u. label-child-lowest mostHanded P sound p u;
+      }
+  labelling-of (Given x) ok =
+      record {
+        least = rule-forced mostHanded P sound lowest lowest-rule x (ok .0) (ok .1);
+        children = λ p u. child-lowest mostHanded P sound x p u;
+      }
+
+  -- the sets by rows are those of the start
+  pub set-of : (start : Start) → SetStart I j start → (v : ℕ) → v < nodes I
+      → IsSet P start v (setsFrom P (stateOf start (freeSet P)) v)
+  unfolding columnOf sets
+  set-of Free ok v h =
+      record {
+        within = set-within mostHanded P sound v (omega arith);
+        members = λ y. set-exactly mostHanded P sound v y (omega arith);
+      }
+  set-of (Given w) ok v h =
+      record {
+        within = sets-within mostHanded P sound w (ok .1) v (omega arith);
+        members = λ y. set-from-exactly mostHanded P sound w (ok .1) (ok .2) v y (omega arith);
+      }
+
+  -- what a call of handing up leaves is the root's row
+  pub hand-up-row : (e : ℕ → ℕ) → HandUpCall I j e → (x : ℕ) → x < I .s → e x ≡ row P (nodes I - 1) x
+  unfolding columnOf
+  hand-up-row e call x h =
+      let a = rules-answer I rules .handUp j _ _ inside (call .room) (call .answer) (call .promise .answer) in
+      let written = subst (λ b. HandedUp I j (call .row) (call .rows) b (call .rowAfter) (call .rowsAfter)) a (call .promise) .lists in
+      call .result x h ∙ entry-unique P x _ _ (written .each .each x h) (row-entry P sound x h)
+
+  -- what a call of scoring leaves is the score
+  pub score-of : (S : ℕ → ℕ) → ScoreCall I S → S j ≡ score P
+  score-of S call =
+      let a = rules-answer I rules .score _ _ (call .room) (call .answer) (call .promise .answer) in
+      let written = subst (λ b. Scored I (call .scores) (call .rows) b (call .scoresAfter) (call .rowsAfter)) a (call .promise) .lists in
+      call .result j inside ∙ score-unique P _ _ (written .each .each j inside) (score-least mostHanded P sound)
+
+  -- what a call of labelling leaves is the labelling by rows
+  pub labels-of : (start : Start) (l : ℕ → ℕ) → StateStart I j start → LabelCall I j start l
+      → (v : ℕ) → v < nodes I → l v ≡ labelFrom lowest P (stateOf start (freeStart P)) v
+  unfolding columnOf
+  labels-of start l ok call v h =
+      let a = rules-answer I rules .label j start _ _ inside ok (call .room) (call .answer) (call .promise .answer) in
+      let written = subst (λ b. Labelled I j start (call .states) (call .rows) b (call .statesAfter) (call .rowsAfter)) a (call .promise) .lists in
+      call .result v h
+      ∙ label-unique P (sound .tree) start (λ u. getD (call .statesAfter) u 0) _ (written .labels) (labelling-of start ok) v (omega arith)
+
+  -- what a call for the sets leaves are the sets by rows
+  pub sets-of : (start : Start) (S : ℕ → ℕ) → SetStart I j start → SetsCall I j start S
+      → (v : ℕ) → v < nodes I → S v ≡ setsFrom P (stateOf start (freeSet P)) v
+  sets-of start S ok call v h =
+      let a = rules-answer I rules .sets j start _ _ inside ok (call .room) (call .answer) (call .promise .answer) in
+      let written = subst (λ b. SetsFound I j start (call .sets) (call .rows) b (call .setsAfter) (call .rowsAfter)) a (call .promise) .lists in
+      call .result v h ∙ set-unique P start v _ _ (written .each .each v h) (set-of start ok v h)

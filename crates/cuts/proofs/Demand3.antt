@@ -1,0 +1,140 @@
+-- Demand 3 in the paper's words, for every table without handed rows of its own and every plan of cuts.
+-- Assumes nothing.
+use mathlib.Core.List.{[]}
+use mathlib.Core.Logic.{_⊎_, inl, inr}
+use mathlib.Core.Path.{_≡_, refl, sym, _∙_, subst}
+use Prim.Native.Nat.{ℕ, _-_, _≤_, _<_}
+use native.Mathlib.Omega.{arith}
+use Rattle.parsimony.specs.Allowed.{mostHanded}
+use Rattle.parsimony.specs.Barred.{barred}
+use Rattle.parsimony.specs.Column.{Column, columnOf}
+use Rattle.parsimony.specs.Labelling.{IsScore}
+use Rattle.parsimony.specs.Least.{LowestLeast}
+use Rattle.parsimony.specs.Row.{row, score, through, total}
+use Rattle.parsimony.specs.Sound.{Sound}
+use Rattle.parsimony.specs.Sum.{sum}
+use Rattle.parsimony.specs.Table.{handed}
+use Rattle.parsimony.specs.Tree.{Kids, tip, two, Rooted}
+use Rattle.parsimony.proofs.ColumnLaws.{whole-sound}
+use Rattle.parsimony.proofs.Fits.{whole-most, whole-tip}
+use Rattle.parsimony.proofs.Order.{by-eq}
+use Rattle.parsimony.proofs.Scoring.{score-least}
+use Rattle.parsimony.proofs.Sums.{sum-same}
+use Rattle.answers.specs.CallRules.{tableRules}
+use Rattle.answers.specs.Input.{Input, nodes, tipsIn, column}
+use Rattle.answers.specs.Rules.{All}
+use Rattle.answers.specs.Starts.{StateStart, SetStart}
+use Rattle.answers.specs.declared.Start.{Start}
+use Rattle.answers.specs.declared.Start.the-variants.{Free, Given}
+use Rattle.answers.proofs.RootLaws.{rules-legal, rules-sound}
+use Rattle.scorer.specs.Results.{StartLabels, IsLabelling, IsSet, IsEntry}
+use Rattle.scorer.proofs.ResultLaws.{least-same, from-same, row-entry}
+use Rattle.cuts.specs.Call.{Answers}
+use Rattle.cuts.specs.Cut.{CutAt, part}
+use Rattle.cuts.specs.Cuttable.{Cuttable}
+use Rattle.cuts.specs.Plan.{Plan, SendsUp, ScoresBy, LabelsBy, SetsBy, Everywhere}
+use Rattle.cuts.proofs.CallLaws.{labelling-of, set-of}
+use Rattle.cuts.proofs.PlanResults.{sends-right, sent-right, scores-right, labels-right, sets-right, plan-answers}
+
+-- a labelling with the same states as one from a start is one from that start
+labelling-same : (P : Column) → Rooted (P .last) (P .kids) → (start : Start) (l m : ℕ → ℕ) → ((v : ℕ) → v ≤ P .last → l v ≡ m v)
+    → IsLabelling P start m → IsLabelling P start l
+labelling-same P tree start l m same is =
+    record {
+      least = root start (is .least);
+      children = λ p u hp c. let b = tree .below hp c in
+          subst (λ y. LowestLeast (through P (row P u) (l p)) (P .states) y) (sym (same u (omega arith)))
+          (subst (λ y. LowestLeast (through P (row P u) y) (P .states) (m u)) (sym (same p hp)) (is .children p u hp c));
+    }
+  where
+    root : (start : Start) → StartLabels P start m → StartLabels P start l
+    root Free least = (
+      least-same P tree l m same (least .0),
+      subst (LowestLeast (row P (P .last)) (P .states)) (sym (same (P .last) (omega arith))) (least .1),
+    )
+    root (Given x) least = from-same P tree x l m same least
+
+-- a row entry of a column without handed rows may be handed up
+whole-small : (P : Column) → Sound 0 P → (v x : ℕ) → v ≤ P .last → x < P .states → (k : Kids) → P .kids v ≡ k
+    → (row P v x ≤ mostHanded) ⊎ (row P v x ≡ barred)
+whole-small P sound v x h hx tip e =
+    by-eq (row P v x) barred (λ bar. inr bar)
+    (λ free. inl (let z = whole-tip P sound v x h e hx free in omega arith))
+whole-small P sound v x h hx (two a b) e = inl (whole-most P sound v a b x h e hx)
+
+-- A table that keeps the rules and has no handed rows may be cut.
+pub whole-cuttable : (W : Input) → All (tableRules W []) → tipsIn handed W ≡ 0 → Cuttable W
+unfolding columnOf
+whole-cuttable W rules none =
+    record {
+      rules = rules;
+      small = λ j v x hj h hx.
+          whole-small (column W j)
+          (whole-sound (W .left) (W .right) (W .s) (W .costs) (W .c) (W .cells) (W .handed) j (rules-legal W rules) (rules .1 .1 .0)
+          (rules .1 .1 .1 .0) (rules .1 .1 .1 .1 .0) hj none) v x (omega arith) hx (column W j .kids v) refl;
+    }
+
+module _ (W : Input) (rules : All (tableRules W [])) (none : tipsIn handed W ≡ 0) (plan : Plan) where
+  ok : Cuttable W
+  ok = whole-cuttable W rules none
+
+  -- No call of a plan is refused, given room, a column and a start, however often pieces are cut again.
+  pub cut-answers : Everywhere Answers plan W
+  cut-answers = plan-answers plan W ok
+
+  -- The scores put together are the whole's: each the least cost over all labellings of the whole that agree with its tips.
+  pub cut-scores : (S : ℕ → ℕ) → ScoresBy plan W S → (j : ℕ) → j < W .c → IsScore (column W j) (S j)
+  cut-scores S by j hj =
+      subst (IsScore (column W j)) (sym (scores-right plan W S ok by j hj))
+      (score-least mostHanded (column W j) (rules-sound W rules j hj))
+
+  -- Their sum is the total.
+  pub cut-total : (S : ℕ → ℕ) → ScoresBy plan W S
+      → sum S (W .c) ≡ total (W .left) (W .right) (W .s) (W .costs) (W .c) (W .cells) (W .handed)
+  unfolding total
+  cut-total S by = sum-same S (λ j. score (column W j)) (W .c) (λ j hj. scores-right plan W S ok by j hj)
+
+  -- The labels put together are the whole's, from any start.
+  pub cut-labels : (j : ℕ) (start : Start) (l : ℕ → ℕ) → j < W .c → StateStart W j start → LabelsBy plan W j start l
+      → IsLabelling (column W j) start l
+  unfolding columnOf
+  cut-labels j start l hj fit by =
+      let sound = rules-sound W rules j hj in
+      let size = rules .0 .odd in
+      labelling-same (column W j) (sound .tree) start l _
+      (λ v h. labels-right plan W j start l ok hj fit by v (omega arith)) (labelling-of W rules j hj start fit)
+
+  -- The sets put together are the whole's, from any start.
+  pub cut-sets : (j : ℕ) (start : Start) (S : ℕ → ℕ) → j < W .c → SetStart W j start → SetsBy plan W j start S
+      → (v : ℕ) → v < nodes W → IsSet (column W j) start v (S v)
+  cut-sets j start S hj fit by v h =
+      subst (IsSet (column W j) start v) (sym (sets-right plan W j start S ok hj fit by v h))
+      (set-of W rules j hj start fit v h)
+
+  -- The rows put together are those that the whole hands up.
+  pub cut-rows : (up : ℕ → ℕ → ℕ) → SendsUp plan W up → (j x : ℕ) → j < W .c → x < W .s
+      → IsEntry (column W j) x (up j x)
+  unfolding columnOf
+  cut-rows up by j x hj hx =
+      subst (IsEntry (column W j) x) (sym (sends-right plan W up ok by j x hj hx))
+      (row-entry (column W j) (rules-sound W rules j hj) x hx)
+
+  -- The row that a part sends up is the whole's row at the node that was cut.
+  pub cut-sent : (v : ℕ) (sent : ℕ → ℕ → ℕ) → CutAt W v → SendsUp plan (part W v) sent
+      → (j x : ℕ) → j < W .c → x < W .s → sent j x ≡ row (column W j) v x
+  cut-sent v sent cut by = sent-right plan W v sent ok cut by
+
+  -- What is put together by any other plan is the same; not to cut is one.
+  module _ (other : Plan) where
+    pub same-scores : (S T : ℕ → ℕ) → ScoresBy plan W S → ScoresBy other W T → (j : ℕ) → j < W .c → S j ≡ T j
+    same-scores S T by to j hj = scores-right plan W S ok by j hj ∙ sym (scores-right other W T ok to j hj)
+
+    pub same-labels : (j : ℕ) (start : Start) (l m : ℕ → ℕ) → j < W .c → StateStart W j start → LabelsBy plan W j start l
+        → LabelsBy other W j start m → (v : ℕ) → v < nodes W → l v ≡ m v
+    same-labels j start l m hj fit by to v h =
+        labels-right plan W j start l ok hj fit by v h ∙ sym (labels-right other W j start m ok hj fit to v h)
+
+    pub same-sets : (j : ℕ) (start : Start) (S T : ℕ → ℕ) → j < W .c → SetStart W j start → SetsBy plan W j start S
+        → SetsBy other W j start T → (v : ℕ) → v < nodes W → S v ≡ T v
+    same-sets j start S T hj fit by to v h =
+        sets-right plan W j start S ok hj fit by v h ∙ sym (sets-right other W j start T ok hj fit to v h)
