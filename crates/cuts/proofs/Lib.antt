@@ -12,4 +12,5 @@ pub mod PlanLaws
 pub mod StartLaws
 pub mod PlanResults
 pub mod TipCounts
+pub mod RelativeOrder
 pub mod Demand3

@@ -105,7 +105,7 @@ module _ (I : Input) (rules : All (tableRules I [])) (K : Choice) (top : ℕ) (s
       cells-at (keptRows I K) (I .c) (keptCell I K) (renumber (keptRow I K) r) j inside hj
       ∙ ap (λ z. cellAt (I .c) (I .cells) j z) own
 
-  handed-kept : (u k : ℕ) → K .keep u ≡ 1 → K .node u ≡ leaf handed k → keptHanded K u ≡ 1
+  pub handed-kept : (u k : ℕ) → K .keep u ≡ 1 → K .node u ≡ leaf handed k → keptHanded K u ≡ 1
   unfolding keptHanded
   handed-kept u k ku e = ap₂ _*_ ku (ap (isTip handed) e)
 
