@@ -33,6 +33,11 @@
 mod raw;
 mod refusal;
 
+/// The page on cutting trees; its example runs as a test.
+#[cfg(doctest)]
+#[doc = include_str!("../../docs/CUTTING.md")]
+mod cutting {}
+
 pub use refusal::Refusal;
 use refusal::{read, read_bare};
 

@@ -1,5 +1,6 @@
 -- The definitions on small inputs, laws by subject, and the theorems that answer the paper's third demand.
 pub mod Cases
+pub mod Example8
 pub mod NumberLaws
 pub mod FilledLaws
 pub mod SitsLaws

@@ -174,7 +174,7 @@ example2a =
     ∷ changes 1
     ∷ [])
 
-abbrev example2b : Example
+abbrev pub example2b : Example
 example2b =
     report 1
     (scores 1
@@ -233,12 +233,12 @@ example7b = pairs unit (5 ∷ 10 ∷ 5 ∷ 10 ∷ []) (scores 2 ∷ changes 2 �
 
 -- 8. Column 1 of the report cut at node 2: row 2, 1, 2, 1 goes up; T and {T} come down; the part's labels are C, T, T.
 -- The part is a and b under node 2; the rest is a handed tip and c under the root.
-abbrev example8part : Example
+abbrev pub example8part : Example
 example8part =
     cherry 4 unit (2 ∷ 8 ∷ [])
     (rowOf 2 (2 ∷ 1 ∷ 2 ∷ 1 ∷ []) ∷ labelsWith 3 (1 ∷ 3 ∷ 3 ∷ []) ∷ setsWith 8 (2 ∷ 8 ∷ 8 ∷ []) ∷ [])
 
-abbrev example8rest : Example
+abbrev pub example8rest : Example
 example8rest =
     record {
       left = none ∷ none ∷ 0 ∷ [];
