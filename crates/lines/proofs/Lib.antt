@@ -1,0 +1,9 @@
+pub mod ByteLaws
+pub mod Cases
+pub mod CountLaws
+pub mod CountSteps
+pub mod LineLaws
+pub mod LineSteps
+pub mod NumberSteps
+pub mod SectionLaws
+pub mod WordSteps
