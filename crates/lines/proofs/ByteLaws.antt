@@ -3,14 +3,15 @@
 use mathlib.Core.Bool.{Bool, true, false, not}
 use mathlib.Core.List.{List, [], _∷_}
 use mathlib.Core.Path.{_≡_, refl, sym, _∙_}
-use Prim.Native.Nat.{ℕ, suc, _+_, _<_, _≤_}
+use Prim.Native.Nat.{ℕ, suc, _+_, _-_, _<_, _≤_}
 use native.Mathlib.Numerals.{add-one}
+use native.Mathlib.Omega.{arith}
 use borrow.Author.Tests.{le-leb, lt-leb, leb-true, not-true, not-false}
 use lib.Dec.{leb}
-use lib.ListN.{length, getD, drop, drop-of-length-le}
-use lib.Seq.{drop-cons}
+use lib.ListN.{length, getD, take, drop, drop-of-length-le}
+use lib.Seq.{drop-cons, slice-cons, length-slice, length-take-le}
 use Rattle.parsimony.specs.Test.{both}
-use Rattle.lines.specs.Bytes.{within}
+use Rattle.lines.specs.Bytes.{within, textOf, every}
 
 -- below the end: a byte, and the sheet from the next place on
 pub drop-below : (sheet : List ℕ) (i : ℕ) → i < length sheet → drop i sheet ≡ getD sheet i 0 ∷ drop (i + 1) sheet
@@ -51,3 +52,33 @@ unfolding within
 within-told least most byte e =
     let e₂ = both-true (leb least byte) (leb byte most) e in
     (leb-true least byte (e₂ .0), leb-true byte most (e₂ .1))
+
+-- the text between two places, byte by byte
+pub text-on : (sheet : List ℕ) (i end : ℕ) → i < end → end ≤ length sheet
+    → textOf sheet i end ≡ getD sheet i 0 ∷ textOf sheet (i + 1) end
+unfolding textOf
+text-on sheet i end h l = rw (add-one) (slice-cons i end sheet 0 h l)
+
+pub text-end : (sheet : List ℕ) (i end : ℕ) → end ≤ i → end ≤ length sheet → textOf sheet i end ≡ []
+unfolding textOf
+text-end sheet i end h l = drop-of-length-le (take end sheet) {i = i} (rw (length-take-le end sheet l) h)
+
+pub text-length : (sheet : List ℕ) (i end : ℕ) → end ≤ length sheet → length (textOf sheet i end) ≡ end - i
+unfolding textOf
+text-length sheet i end l = length-slice i end sheet l
+
+module _ (f : ℕ → Bool) (sheet : List ℕ) (i end : ℕ) (l : end ≤ length sheet) where
+  -- a byte of which the test holds: the rest of the text decides
+  pub every-on : i < end → f (getD sheet i 0) ≡ true → every f (textOf sheet (i + 1) end) ≡ every f (textOf sheet i end)
+  unfolding every both
+  every-on h e = rw (text-on sheet i end h l, e)
+
+  -- a byte of which it does not
+  pub every-off : i < end → f (getD sheet i 0) ≡ false → false ≡ every f (textOf sheet i end)
+  unfolding every both
+  every-off h e = rw (text-on sheet i end h l, e)
+
+  -- no byte is left
+  pub every-end : end ≤ i → true ≡ every f (textOf sheet i end)
+  unfolding every
+  every-end h = rw (text-end sheet i end h l)

@@ -7,9 +7,21 @@ use native.Mathlib.Numerals.{add-one}
 use native.Mathlib.Omega.{arith}
 use lib.ListN.{length, take, drop, set, length-set, take-append-drop}
 use lib.Seq.{length-take-le, take-suc-set, drop-set-lt, drop-drop}
-use Rattle.lines.specs.Section.{Item, item, fault, Section, Gives, follow, section}
+use Rattle.lines.specs.Section.{Item, item, fault, Section, Gives, placed, follow, section, wrote}
 use Rattle.lines.specs.declared.Fault.{Fault}
+use Rattle.lines.specs.declared.Part.{Part}
 use Rattle.lines.specs.declared.Part.the-variants.{Read, Wrong}
+
+-- a line that was judged by an answer: a fault, or an item
+pub placed-wrong : (at : ℕ) (answer : Part) {judged : Item ℕ} (f : Fault) → placed at answer ≡ judged → answer ≡ Wrong f
+    → judged ≡ fault f
+unfolding placed
+placed-wrong at answer f e w = sym e ∙ ap (placed at) w
+
+pub placed-read : (at : ℕ) (answer : Part) {judged : Item ℕ} (next : ℕ) → placed at answer ≡ judged → answer ≡ Read next
+    → judged ≡ item at next
+unfolding placed
+placed-read at answer next e w = sym e ∙ ap (placed at) w
 
 module _ {A : Type 0} (judge : List A → ℕ → ℕ → Item A) (t i at line : ℕ) (before : List A) where
   -- a line with an item: the section goes on
@@ -47,7 +59,8 @@ pub record Going {A : Type 0} (judge : List A → ℕ → ℕ → Item A) (t fro
   pub whole : section judge (t - i) at line (take i list) ≡ section judge t from first []
 
 filled : {A : Type 0} (i : ℕ) (list entry : List A) → i ≤ length list → drop i list ≡ drop i entry
-    → list ≡ take i list ++ drop (length (take i list)) entry
+    → list ≡ wrote (take i list) entry
+unfolding wrote
 filled i list entry h e = rw (length-take-le i list h, ← e) (sym (take-append-drop i list))
 
 module _ {A : Type 0} {judge : List A → ℕ → ℕ → Item A} {t from first : ℕ} {entry : List A} where

@@ -2,6 +2,7 @@
 -- Assumes nothing.
 pub mod Bytes
 pub mod Count
+pub mod Counting
 pub mod Fault
 pub mod IsLine
 pub mod Line

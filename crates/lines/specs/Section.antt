@@ -13,6 +13,11 @@ pub data Item (A : Type 0) : Type 0 where
   item : A → ℕ → Item A
   fault : Fault → Item A
 
+-- a line whose item is its place
+unfoldable pub placed : ℕ → Part → Item ℕ
+placed at (Read next) = item at next
+placed at (Wrong f) = fault f
+
 -- what a section gives: the items of its lines up to the first fault, and the place to go on from or that fault
 pub record Section (A : Type 0) : Type 0 where
   pub items : List A
@@ -31,8 +36,11 @@ section judge zero at line before = record { items = before; part = Read at }
 section judge (suc n) at line before =
     follow (judge before at line) before (λ items next. section judge n next (line + 1) items)
 
--- what a section's reader gives: the answer, and the list that it fills, which begins with the items and is otherwise as
--- it was at entry
+-- a list that begins with the items, and is otherwise as it was at entry
+unfoldable pub wrote : {A : Type 0} → List A → List A → List A
+wrote items entry = items ++ drop (length items) entry
+
+-- what a section's reader gives: the answer, and the list that it fills with the items
 pub record Gives {A : Type 0} (given : Section A) (answer : Part) (entry exit : List A) : Type 0 where
   pub said : answer ≡ given .part
-  pub written : exit ≡ given .items ++ drop (length (given .items)) entry
+  pub written : exit ≡ wrote (given .items) entry

@@ -4,6 +4,7 @@ ghost use Prim.Native.Nat.{_-_, _≤_};
 ghost use lib.ListN.{getD};
 ghost use Rattle.lines.specs.Bytes.{within};
 ghost use Rattle.lines.specs.Count.{countOf};
+ghost use Rattle.lines.specs.Counting.{withCount};
 ghost use Rattle.lines.specs.Line.{lineOf};
 ghost use Rattle.lines.specs.Number.{digitsOf, numberOf, fieldOf};
 ghost use Rattle.lines.specs.Word.{wordOf};
@@ -183,4 +184,14 @@ pub fn read_count(
         return Count::Miscounted(Fault::Sheet(line));
     }
     Count::Counted(n, next)
+}
+
+// The count n, with the place that its section ends at or the section's fault.
+pub fn with_count(n: usize, part: Part) -> Count
+    ensures { λ r. ⌜ r ≡ withCount n part ⌝ }
+{
+    match part {
+        Part::Read(next) => Count::Counted(n, next),
+        Part::Wrong(fault) => Count::Miscounted(fault),
+    }
 }
