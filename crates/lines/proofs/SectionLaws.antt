@@ -77,6 +77,13 @@ module _ {A : Type 0} {judge : List A → ℕ → ℕ → Item A} {t from first 
       }
 
   module _ {i at line : ℕ} {list : List A} (going : Going judge t from first entry i at line list) where
+    -- as many items stand in the list as lines are read
+    pub going-taken : i < t → length (take i list) ≡ i
+    going-taken h =
+        let size = going .size in
+        let room = going .room in
+        length-take-le i list (omega arith)
+
     -- an item goes into the list
     pub going-on : (a : A) (next : ℕ) → i < t → judge (take i list) at line ≡ item a next
         → Going judge t from first entry (i + 1) next (line + 1) (set list i a)
@@ -120,3 +127,47 @@ module _ {A : Type 0} {judge : List A → ℕ → ℕ → Item A} {t from first 
           written =
               rw (← s) (filled i list entry (omega arith) (going .rest));
         }
+
+-- The reading of a section of t lines of which no item is kept: i lines are read.
+pub record Passing {A : Type 0} (judge : List A → ℕ → ℕ → Item A) (t from first i at line : ℕ) : Type 0 where
+  pub before : List A
+  pub few : i ≤ t
+  pub count : line ≡ first + i
+  pub whole : section judge (t - i) at line before ≡ section judge t from first []
+
+module _ {A : Type 0} {judge : List A → ℕ → ℕ → Item A} {t from first : ℕ} where
+  -- at the start no line is read
+  pub passing-start : Passing judge t from first 0 from first
+  passing-start =
+      record {
+        before = [];
+        few = omega arith;
+        count = omega arith;
+        whole = ap (λ n. section judge n from first []) (omega arith);
+      }
+
+  module _ {i at line : ℕ} (passing : Passing judge t from first i at line) where
+    -- an item is passed over
+    pub passing-on : (a : A) (next : ℕ) → i < t → ((before : List A) → judge before at line ≡ item a next)
+        → Passing judge t from first (i + 1) next (line + 1)
+    passing-on a next h e =
+        let before = passing .before in
+        record {
+          before = before ++ a ∷ [];
+          few = omega arith;
+          count = omega (arith, passing .count);
+          whole = section-on judge t i at line before a next h (e before) ∙ passing .whole;
+        }
+
+    -- a fault ends the reading
+    pub passing-stop : (f : Fault) → i < t → ((before : List A) → judge before at line ≡ fault f)
+        → Wrong f ≡ section judge t from first [] .part
+    passing-stop f h e =
+        let before = passing .before in
+        ap (λ g. g .part) (section-stop judge t i at line before f h (e before) ∙ passing .whole)
+
+    -- all lines are read
+    pub passing-end : t ≤ i → Read at ≡ section judge t from first [] .part
+    passing-end h =
+        let before = passing .before in
+        ap (λ g. g .part) (section-end judge t i at line before h ∙ passing .whole)
