@@ -1,0 +1,10 @@
+pub mod ByteLaws
+pub mod Cases
+pub mod CountLaws
+pub mod CountSteps
+pub mod CountingLaws
+pub mod LineLaws
+pub mod LineSteps
+pub mod NumberSteps
+pub mod SectionLaws
+pub mod WordSteps

@@ -1,0 +1,19 @@
+-- What a section of names that is read says.
+-- Assumes nothing.
+use mathlib.Core.List.{List, []}
+use mathlib.Core.Path.{_≡_}
+use Prim.Native.Nat.{ℕ, _≤_}
+use Rattle.lines.specs.Bytes.{bytes}
+use Rattle.lines.specs.declared.Count.the-variants.{Counted}
+use Rattle.lines.proofs.CountLaws.{CountRead, count-read}
+use Rattle.lines.proofs.CountingLaws.{counting-read}
+use Rattle.names.specs.Names.{namesOf}
+
+-- there are 1 to 512 names
+pub names-count : (sheet : List ℕ) (at line t next : ℕ) → namesOf sheet at line .count ≡ Counted t next
+    → (1 ≤ t) × (t ≤ 512)
+unfolding namesOf
+names-count sheet at line t next e =
+    let read = counting-read _ _ t next e in
+    let count = count-read (bytes "names ") 1 512 sheet at line t (read .0) (read .1) in
+    (count .enough, count .small)

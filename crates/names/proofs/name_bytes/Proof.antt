@@ -1,0 +1,62 @@
+-- `names::name_bytes` meets its contract. The invariant: the bytes from i on decide. The measure is what is left of the
+-- text.
+-- Assumes nothing.
+use mathlib.Core.Path.{_≡_, refl, _∙_}
+use Prim.Native.Nat.{_-_}
+use borrow.Author.Needs.{needs}
+use Rattle.lines.proofs.ByteLaws.{test-yes, test-no, every-on, every-off, every-end}
+use Rattle.lines.specs.Bytes.{textOf, every}
+use Rattle.names.specs.Name.{isNameByte}
+use Rattle.names.proofs.name_bytes.Statement.{statement}
+use Rattle.names.proofs.name_bytes.Tie as tie
+
+abbrev Inv-loop : tie.InvT-loop
+Inv-loop sheet at end i₀ i = every isNameByte (textOf sheet i end) ≡ every isNameByte (textOf sheet at end)
+
+abbrev μ-loop : tie.MeasureT-loop
+μ-loop sheet at end i₀ i = end - i
+
+loop-holds : tie.Need-loop-holds Inv-loop μ-loop
+loop-holds c = refl
+
+shared-slice-read-name-byte : tie.Need-shared-slice-read-name-byte Inv-loop μ-loop
+shared-slice-read-name-byte c = search needs
+
+name-byte-requires : tie.Need-name-byte-requires Inv-loop μ-loop
+name-byte-requires c κs = search needs
+
+returns : tie.Need-returns Inv-loop μ-loop
+returns c =
+    every-off _ _ _ _ (c .before .before .before .before .before .before .pre)
+    (c .before .before .before .loop-test .taken) (test-no (c .before .name-byte .ensures) (c .if1 .taken))
+    ∙ c .before .before .before .before .loop .inv
+
+add-i : tie.Need-add-i Inv-loop μ-loop
+add-i c = search needs
+
+loop-less : tie.Need-loop-less Inv-loop μ-loop
+loop-less c = search needs
+
+loop-again : tie.Need-loop-again Inv-loop μ-loop
+loop-again c =
+    every-on _ _ _ _ (c .before .before .before .before .before .before .pre)
+    (c .before .before .before .loop-test .taken) (test-yes (c .before .name-byte .ensures) (c .if1 .left))
+    ∙ c .before .before .before .before .loop .inv
+
+returns-2 : tie.Need-returns-2 Inv-loop μ-loop
+returns-2 c = every-end _ _ _ _ (c .before .before .before .pre) (c .loop-test .left) ∙ c .before .loop .inv
+
+pub name-bytes-spec : {M : Type 1} → statement M
+name-bytes-spec =
+    tie.close
+    (tie.spec
+    Inv-loop
+    μ-loop
+    loop-holds
+    shared-slice-read-name-byte
+    name-byte-requires
+    returns
+    add-i
+    loop-less
+    loop-again
+    returns-2)

@@ -1,0 +1,4 @@
+-- The names of a sheet.
+-- Assumes nothing.
+pub mod Name
+pub mod Names

@@ -1,0 +1,17 @@
+-- The rules of a cost table of four states, row the parent's state, column the child's.
+-- Assumes nothing.
+use mathlib.Core.List.{List, []}
+use mathlib.Core.Path.{_≡_}
+use Prim.Native.Nat.{ℕ, _<_, _≤_}
+use lib.ListN.{length, getD}
+
+-- the row of the parent's state x: four costs, each at most 999, and nothing for no change
+pub record RowRules (x : ℕ) (row : List ℕ) : Type 0 where
+  pub size : length row ≡ 4
+  pub cheap : (y : ℕ) → getD row y 0 ≤ 999
+  pub stay : getD row x 0 ≡ 0
+
+-- the table: four such rows
+pub record TableRules (table : List (List ℕ)) : Type 0 where
+  pub size : length table ≡ 4
+  pub rows : (x : ℕ) → x < 4 → RowRules x (getD table x [])

@@ -1,0 +1,54 @@
+// The sheet up to its tree line: the sections one after the other.
+ghost use mathlib.Core.Path.{_≡_};
+ghost use Prim.Native.Nat.{_≤_};
+ghost use lib.ListN.{length};
+ghost use Rattle.sections.specs.Sheet.{GivesSheet, sheetOf};
+use crate::cells::Matrix;
+use crate::cells::matrix_section;
+use crate::costs::costs_section;
+use lines::Count;
+use lines::Fault;
+use lines::read_count;
+use names::names_section;
+
+// What the sections say: the number of tips and of columns, the place of the first cell, and the place and the number of
+// the tree line.
+pub struct Sections {
+    pub tips: usize,
+    pub columns: usize,
+    pub cells: usize,
+    pub tree: usize,
+    pub line: usize,
+}
+
+// What the sheet up to its tree line comes to.
+pub enum Reading {
+    Sound(Sections),
+    Faulty(Fault),
+}
+
+// The sections of a sheet. The place of each name goes into names, and the costs into table.
+pub fn read_sections(sheet: &[u8], names: &mut [usize], table: &mut [[u16; 4]; 4]) -> Reading
+    requires { ⌜ (512 ≤ length (now names)) × (length (now table) ≡ 4) ⌝ }
+    ensures { λ r. ⌜ GivesSheet (sheetOf (now (sheet .entry))) r (now (names .entry)) (now (names .exit)) (now (table .entry)) (now (table .exit)) ⌝ }
+{
+    match names_section(sheet, 0, 1, names) {
+        Count::Miscounted(fault) => Reading::Faulty(fault),
+        Count::Counted(t, columns_at) => match matrix_section(sheet, t, columns_at, t + 2) {
+            Matrix::NoCells(fault) => Reading::Faulty(fault),
+            Matrix::Cells(c, cells, costs_at) => match costs_section(sheet, costs_at, t + t + 3, table) {
+                Count::Miscounted(fault) => Reading::Faulty(fault),
+                Count::Counted(k, tree_at) => match read_count(sheet, tree_at, t + t + 4 + k, b"tree ", 1, 1) {
+                    Count::Miscounted(fault) => Reading::Faulty(fault),
+                    Count::Counted(_, tree) => Reading::Sound(Sections {
+                        tips: t,
+                        columns: c,
+                        cells,
+                        tree,
+                        line: t + t + 5 + k,
+                    }),
+                },
+            },
+        },
+    }
+}

@@ -1,0 +1,4 @@
+pub mod Below
+pub mod Cases
+pub mod SymbolLaws
+pub mod Table
