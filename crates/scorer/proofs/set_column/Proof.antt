@@ -62,7 +62,8 @@ root-set-requires c κs =
     let long = fill-rows .ensures .long in
     let room = parts .room .1 in (
       (
-        root-inside (nodes I) (I .s) (length fill-rows-out) _ (rules-node I t) (omega arith) (omega (arith, c .root-place .ensures)),
+        root-inside (nodes I) (I .s) (length fill-rows-out) _ (rules-node I t) (omega arith)
+            (omega (arith, c .root-place .ensures)),
         rules-state I t,
         t .1 .1 .0 .most,
       ),

@@ -4,15 +4,16 @@ use Prim.Native.Nat.{_*_, _≤_}
 use native.Mathlib.Nat.{mul-le-mul}
 use native.Mathlib.Omega.{arith}
 use borrow.Author.Needs.{needs}
-use Rattle.answers.proofs.tests.room_fits.Statement.{statement}
-use Rattle.answers.proofs.tests.room_fits.Tie as tie
+use Rattle.answers.proofs.calls.room_fits.Statement.{statement}
+use Rattle.answers.proofs.calls.room_fits.Tie as tie
 
 returns : tie.Need-returns
 returns c = search needs
 
 mul-if2 : tie.Need-mul-if2
 mul-if2 c =
-    let product : c .before .args .n * c .before .args .s ≤ 1023 * 16 = mul-le-mul (c .before .pre .0) (c .before .pre .1) in
+    let start = c .before in
+    let product : start .args .n * start .args .s ≤ 1023 * 16 = mul-le-mul (start .pre .0) (start .pre .1) in
     omega arith
 
 returns-2 : tie.Need-returns-2
