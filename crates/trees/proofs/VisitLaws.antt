@@ -1,11 +1,10 @@
 -- Laws of a visit: the marks at one node more, and that the marks tell whether a node keeps the rules.
 -- Assumes nothing.
-use mathlib.Core.Bool.{Bool, true, false, not}
+use mathlib.Core.Bool.{Bool, true, false}
 use mathlib.Core.List.{List}
 use mathlib.Core.Path.{_≡_, refl, sym, _∙_, subst}
 use Prim.Native.Nat.{ℕ, _+_, _≤_, _<_}
 use native.Mathlib.Omega.{arith}
-use borrow.Author.Tests.{not-true, not-false}
 use lib.ListN.{getD}
 use Rattle.parsimony.specs.Fault.{KeepsEntries}
 use Rattle.parsimony.specs.Table.{Kind, symbol, handed, Node, leaf, inner, kidsOf, names, tips, rowUses, childUses}
@@ -64,16 +63,10 @@ marked-next {node} {v} {x} {rows = rows} {given} {rows' = rows'} {given'} e m a 
           (rows-counted node v x e handed given given' (m .kinds handed) c);
     }
 
--- what the answer to a visit says, once it is known to be yes or no
-pub visited-yes : {n : ℕ} {node : ℕ → Node} {v : ℕ} {seen rows given : List ℕ} {b : Bool}
-    → Visited n node v seen rows given b → not b ≡ false → VisitedBy n node v seen rows given true
-visited-yes {n} {node} {v} {seen} {rows} {given} {b} h e =
-    subst (VisitedBy n node v seen rows given) (not-false b e) (h .visited)
-
-pub visited-no : {n : ℕ} {node : ℕ → Node} {v : ℕ} {seen rows given : List ℕ} {b : Bool}
-    → Visited n node v seen rows given b → not b ≡ true → VisitedBy n node v seen rows given false
-visited-no {n} {node} {v} {seen} {rows} {given} {b} h e =
-    subst (VisitedBy n node v seen rows given) (not-true b e) (h .visited)
+-- what the answer to a visit says, once it is known to be d
+pub visited-as : (d : Bool) {n : ℕ} {node : ℕ → Node} {v : ℕ} {seen rows given : List ℕ} {b : Bool}
+    → Visited n node v seen rows given b → b ≡ d → VisitedBy n node v seen rows given d
+visited-as d {n} {node} {v} {seen} {rows} {given} h e = subst (VisitedBy n node v seen rows given) e (h .visited)
 
 module _ {n : ℕ} {node : ℕ → Node} {v t h : ℕ} {seen rows given : List ℕ}
     (here : Ready n node v t h seen rows given) where

@@ -1,5 +1,6 @@
--- `child_set` meets its contract. The loop's invariant: the set has the states that reach the least under a parent's state
--- below x, and from is the place of row x of the costs. The measure is what is left of the states. Assumes nothing.
+-- `child_set` meets its contract. The loop's invariant: the set has the states that reach the least under a parent's
+-- state below x, and from is the place of row x of the costs. The measure is what is left of the states. Assumes
+-- nothing.
 use mathlib.Core.Logic.{⊎-elim}
 use mathlib.Core.Path.{_≡_, sym, ap, ap₂, _∙_, subst}
 use Prim.Native.Nat.{suc, _+_, _-_, _*_, _≤_}
@@ -65,7 +66,6 @@ loop-less c = search needs
 loop-again : tie.Need-loop-again Inv-loop μ-loop
 loop-again c =
     let turn = c .before .before .before .loop in
-    let call = c .before .before .before .before .before .before in
     let start = c .before .before .before .before .before .before in
     let x = turn .x in
     let inv = turn .inv in
@@ -82,12 +82,12 @@ loop-again c =
           (λ k. reached (start .args .costs .now) k (start .args .rows .now) (start .args .at) (start .args .s)
           (start .args .s))
           (inv .1))
-          ∙ joined-more (call .args .costs .now) (call .args .rows .now) (call .args .at) (call .args .s)
-          (call .args .parent) x _ (c .before .has .ensures) (w .0 .taken))
+          ∙ joined-more (start .args .costs .now) (start .args .rows .now) (start .args .at) (start .args .s)
+          (start .args .parent) x _ (c .before .has .ensures) (w .0 .taken))
           (λ w. ap (λ (r : States). r .0) (w .1)
           ∙ inv .2
-          ∙ joined-other (call .args .costs .now) (call .args .rows .now) (call .args .at) (call .args .s)
-          (call .args .parent) x _ (c .before .has .ensures) (w .0 .left))
+          ∙ joined-other (start .args .costs .now) (start .args .rows .now) (start .args .at) (start .args .s)
+          (start .args .parent) x _ (c .before .has .ensures) (w .0 .left))
           (c .if1 .came),
     )
 

@@ -1,5 +1,5 @@
--- `choose` meets its contract. The loop's invariant: of the states below y the lowest is the lowest least, and best is its
--- sum. The measure is what is left of the states. Assumes nothing.
+-- `choose` meets its contract. The loop's invariant: of the states below y the lowest is the lowest least, and best is
+-- its sum. The measure is what is left of the states. Assumes nothing.
 use mathlib.Core.Logic.{⊎-elim}
 use mathlib.Core.Path.{_≡_, sym, ap, _∙_}
 use Prim.Native.Nat.{ℕ, _-_, _≤_, _<_}

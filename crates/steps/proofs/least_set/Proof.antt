@@ -63,7 +63,8 @@ loop-again c =
           ∙ least-set-more (start .args .rows .now) (start .args .at) (start .args .s) y (w .0 .taken ∙ best))
           (λ w. ap (λ (r : States). r .0) (w .1)
           ∙ inv .1
-          ∙ least-set-other (start .args .rows .now) (start .args .at) (start .args .s) y (λ e. w .0 .left (e ∙ sym best)))
+          ∙ least-set-other (start .args .rows .now) (start .args .at) (start .args .s) y
+          (λ e. w .0 .left (e ∙ sym best)))
           (c .if1 .came),
     )
 

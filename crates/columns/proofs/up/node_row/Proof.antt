@@ -10,7 +10,15 @@ use Rattle.parsimony.proofs.ColumnLaws.{cell-place}
 use Rattle.steps.proofs.WroteLaws.{wrote-same}
 use Rattle.trees.specs.NodeOf.{nodeOf}
 use Rattle.columns.proofs.PlaceLaws.{row-inside, product-fits}
-use Rattle.columns.proofs.RowSteps.{CalmKids, symbol-row, handed-small, handed-in, handed-row, kids-calm, inner-row}
+use Rattle.columns.proofs.RowSteps.{
+  CalmKids,
+  symbol-row,
+  handed-small,
+  handed-in,
+  handed-row,
+  kids-calm,
+  inner-row,
+}
 use Rattle.columns.proofs.up.node_row.Statement.{statement}
 use Rattle.columns.proofs.up.node_row.Tie as tie
 
@@ -54,7 +62,9 @@ cell-at c =
 
 -- a handed tip's row is one of h, and small
 small-at : (c : tie.After-k)
-    → (c .k .given .0 .0 < from-k c .args .h) × (from-k c .args .h ≤ 1023) × (from-k c .args .j * from-k c .args .h ≤ 67042305)
+    → (c .k .given .0 .0 < from-k c .args .h)
+    × (from-k c .args .h ≤ 1023)
+    × (from-k c .args .j * from-k c .args .h ≤ 67042305)
 small-at c =
     let start = from-k c in
     handed-small (start .pre .0) (start .args .v) (start .pre .1 .1 .0 .0) (start .args .h) (start .pre .1 .0)
@@ -62,7 +72,8 @@ small-at c =
 
 -- the children's rows stand below, and are calm
 kids-at : (c : tie.After-a)
-    → CalmKids (from-a c .args .rows .now) (from-a c .args .s) (from-a c .args .v) (c .a .given .0 .0) (c .a .given .0 .1 .0)
+    → CalmKids (from-a c .args .rows .now) (from-a c .args .s) (from-a c .args .v) (c .a .given .0 .0)
+    (c .a .given .0 .1 .0)
 kids-at c =
     let start = from-a c in
     kids-calm (start .pre .0) (start .args .v) (start .pre .1 .1 .0 .0) (start .args .rows .now)

@@ -1,15 +1,17 @@
 -- `shape::walk` meets its contract. The invariant: the marks count the uses by the nodes below v, the entries of which
 -- keep their rules. The measure is what is left of the nodes.
 -- Assumes nothing.
+use mathlib.Core.Bool.{true, false}
 use Prim.Native.Nat.{ℕ, _≤_, _<_, _-_}
 use native.Mathlib.Omega.{arith}
 use borrow.Author.Count.{below-none, below-more}
 use borrow.Author.Needs.{needs}
+use borrow.Author.Tests.{not-true, not-false}
 use lib.ListN.{length}
 use Rattle.parsimony.specs.Fault.{KeepsEntries}
 use Rattle.parsimony.specs.Table.{nodeAt}
 use Rattle.trees.specs.Visit.{Marked}
-use Rattle.trees.proofs.VisitLaws.{visited-yes, visited-no}
+use Rattle.trees.proofs.VisitLaws.{visited-as}
 use Rattle.trees.proofs.shape.walk.Statement.{statement}
 use Rattle.trees.proofs.shape.walk.Tie as tie
 
@@ -36,7 +38,7 @@ visit-requires c κs =
 returns : tie.Need-returns Inv-loop μ-loop
 returns c =
     let turn = c .before .before .before .before .before .before .loop in
-    let broken = visited-no (c .before .visit .ensures) (c .if1 .taken) in
+    let broken = visited-as false (c .before .visit .ensures) (not-true _ (c .if1 .taken)) in
     (record { within = turn .inv .0; before = turn .inv .2; stop = λ i. broken .0 }, broken .1 .children)
 
 add-v : tie.Need-add-v Inv-loop μ-loop
@@ -48,7 +50,7 @@ loop-less c = search needs
 loop-again : tie.Need-loop-again Inv-loop μ-loop
 loop-again c =
     let turn = c .before .before .before .before .before .before .loop in
-    let kept = visited-yes (c .before .visit .ensures) (c .if1 .left) in
+    let kept = visited-as true (c .before .visit .ensures) (not-false _ (c .if1 .left)) in
     (omega arith, kept .1, below-more _ _ (turn .inv .2) (kept .0))
 
 -- all keep them
