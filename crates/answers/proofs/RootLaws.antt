@@ -33,20 +33,12 @@ rules-node I rules = let odd = rules .0 .odd in omega arith
 -- its columns are sound
 pub rules-sound : (I : Input) → All (tableRules I []) → (j : ℕ) → j < I .c → Sound mostHanded (column I j)
 rules-sound I rules j inside =
-    column-sound (I .left) (I .right) (I .s) (I .costs) (I .c) (I .cells) (I .handed) j (rules-legal I rules) (rules .1 .1 .0)
-    (rules .1 .1 .1 .0) (rules .1 .1 .1 .1 .0) inside
+    column-sound (I .left) (I .right) (I .s) (I .costs) (I .c) (I .cells) (I .handed) j (rules-legal I rules)
+    (rules .1 .1 .0) (rules .1 .1 .1 .0) (rules .1 .1 .1 .1 .0) inside
 
 module _ (I : Input) (rules : All (tableRules I [])) (j : ℕ) (inside : j < I .c) where
   root-below : nodes I - 1 < nodes I
   root-below = let some = rules-node I rules in omega arith
-
-  -- the cell of a symbol tip lies in the list of cells
-  pub cell-place : (v r : ℕ) → v < nodes I → nodeIn I v ≡ leaf symbol r → r * I .c + j < length (I .cells)
-  cell-place v r h e =
-      let w = row-within (nodes I) (nodeIn I) (rules .1 .0) v h symbol r e in
-      let p = place r j (tipsIn symbol I) (I .c) w inside in
-      let n = rules .1 .1 .1 .0 .count in
-      omega arith
 
   -- the entry of a handed tip lies in the list of handed entries
   pub handed-place : (v k x : ℕ) → v < nodes I → nodeIn I v ≡ leaf handed k → x < I .s

@@ -24,10 +24,12 @@ module _ (I : Input) (j : ℕ) (start : Start) where
 
   -- a state at s or above is not
   pub state-high : (x : ℕ) → start ≡ Given x → I .s ≤ x → Tells (StateStart I j start) false
-  state-high x e h = subst (λ t. Tells (StateStart I j t) false) (sym e) (record { told = λ fits. omega (arith, fits .0) })
+  state-high x e h =
+      subst (λ t. Tells (StateStart I j t) false) (sym e) (record { told = λ fits. omega (arith, fits .0) })
 
   -- a state below s is if the root does not bar it
-  pub state-below : (x : ℕ) (b : Bool) → start ≡ Given x → x < I .s → Tells (OpenRoot I j x) b → Tells (StateStart I j start) b
+  pub state-below : (x : ℕ) (b : Bool) → start ≡ Given x → x < I .s → Tells (OpenRoot I j x) b
+      → Tells (StateStart I j start) b
   state-below x b e h t =
       subst (λ u. Tells (StateStart I j u) b) (sym e) (tells-same (λ o. (h, o)) (λ fits. fits .1) t)
 

@@ -1,5 +1,7 @@
 // The numbered answers of the table calls, and the tests that give them.
-pub mod tests;
+pub mod calls;
+pub mod starts;
+pub mod table;
 
 // The refusals of the table calls, in the order of their numbers.
 pub enum Refusal {

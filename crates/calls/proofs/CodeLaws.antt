@@ -14,7 +14,7 @@ use Rattle.answers.specs.declared.Answer.the-variants.{Done, Refused}
 use Rattle.answers.specs.declared.Refusal.the-variants.{Size, Shape, Costs, Cells, Rows, Which, NotUnit, Room}
 use Rattle.answers.specs.declared.Start.{Start}
 use Rattle.scorer.specs.Counts.{answerOf, changesOf}
-use Rattle.scorer.specs.Promises.{Labelled, SetsFound, CountedBySets}
+use Rattle.scorer.specs.Promises.{CountedBySets}
 use Rattle.scorer.specs.declared.Counted.{Counted}
 use Rattle.scorer.specs.declared.Counted.the-variants as Counts
 use Rattle.scorer.proofs.CountResult.{count-small}
@@ -62,19 +62,16 @@ zero-first k = omega arith
 pub plus-none : (n : ℕ) → n ≡ n + 256 * 0
 plus-none n = omega arith
 
--- a promise from one start is the promise from another that is equal to it
-pub labelled-from : {I : Input} {j : ℕ} {t u : Start} {states rows states' rows' : List ℕ} {a : Answer} → t ≡ u
-    → Labelled I j t states rows a states' rows' → Labelled I j u states rows a states' rows'
-labelled-from {I} {j} {states = states} {rows} {states'} {rows'} {a} e p =
-    subst (λ t. Labelled I j t states rows a states' rows') e p
-
-pub sets-from : {I : Input} {j : ℕ} {t u : Start} {sets rows sets' rows' : List ℕ} {a : Answer} → t ≡ u
-    → SetsFound I j t sets rows a sets' rows' → SetsFound I j u sets rows a sets' rows'
-sets-from {I} {j} {sets = sets} {rows} {sets'} {rows'} {a} e p = subst (λ t. SetsFound I j t sets rows a sets' rows') e p
+-- a call's promise from one start is its promise from another that is equal to it
+pub promise-from : (Promise : Input → ℕ → Start → List ℕ → List ℕ → Answer → List ℕ → List ℕ → Type 0)
+    {I : Input} {j : ℕ} {t u : Start} {list rows list' rows' : List ℕ} {a : Answer} → t ≡ u
+    → Promise I j t list rows a list' rows' → Promise I j u list rows a list' rows'
+promise-from Promise {I} {j} {list = list} {rows} {list'} {rows'} {a} e p =
+    subst (λ t. Promise I j t list rows a list' rows') e p
 
 -- what set counting carries and counts is small
-pub counted-small : (left right : List ℕ) (s : ℕ) (costs : List ℕ) (c : ℕ) (cells : List ℕ) (j : ℕ) (sets sets' : List ℕ)
-    (a : Counted) → CountedBySets (input left right s costs c cells []) j sets a sets'
+pub counted-small : (left right : List ℕ) (s : ℕ) (costs : List ℕ) (c : ℕ) (cells : List ℕ) (j : ℕ)
+    (sets sets' : List ℕ) (a : Counted) → CountedBySets (input left right s costs c cells []) j sets a sets'
     → (carriedBy (answerOf a) < 1023) × (changesOf a < barred)
 counted-small left right s costs c cells j sets sets' (Counts.Done k) p =
     (omega arith, count-small left right s costs c cells j (length sets) k (p .answer .given) (p .lists .score))

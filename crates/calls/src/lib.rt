@@ -66,8 +66,9 @@ pub extern "C" fn fernijster_score(
     scores: &mut [u32],
     rows: &mut [u32],
 ) -> u64
-    ensures { λ r. ⌜ ScoredCode (input (now (left .entry)) (now (right .entry)) s (now (costs .entry)) c (now (cells .entry)) (now (handed .entry)))
-        (now (scores .entry)) (now (rows .entry)) r (now (scores .exit)) (now (rows .exit)) ⌝ }
+    ensures { λ r. ⌜ ScoredCode
+        (input (now (left .entry)) (now (right .entry)) s (now (costs .entry)) c (now (cells .entry))
+        (now (handed .entry))) (now (scores .entry)) (now (rows .entry)) r (now (scores .exit)) (now (rows .exit)) ⌝ }
 {
     code(scorer::score(
         left,
@@ -97,8 +98,10 @@ pub extern "C" fn fernijster_label(
     states: &mut [u8],
     rows: &mut [u32],
 ) -> u64
-    ensures { λ r. ⌜ LabelledCode (input (now (left .entry)) (now (right .entry)) s (now (costs .entry)) c (now (cells .entry)) (now (handed .entry))) column (startOf start)
-        (now (states .entry)) (now (rows .entry)) r (now (states .exit)) (now (rows .exit)) ⌝ }
+    ensures { λ r. ⌜ LabelledCode
+        (input (now (left .entry)) (now (right .entry)) s (now (costs .entry)) c (now (cells .entry))
+        (now (handed .entry))) column (startOf start) (now (states .entry)) (now (rows .entry)) r
+        (now (states .exit)) (now (rows .exit)) ⌝ }
 {
     code(scorer::label(
         left,
@@ -130,8 +133,10 @@ pub extern "C" fn fernijster_sets(
     sets: &mut [u16],
     rows: &mut [u32],
 ) -> u64
-    ensures { λ r. ⌜ SetsCode (input (now (left .entry)) (now (right .entry)) s (now (costs .entry)) c (now (cells .entry)) (now (handed .entry))) column (startOf start)
-        (now (sets .entry)) (now (rows .entry)) r (now (sets .exit)) (now (rows .exit)) ⌝ }
+    ensures { λ r. ⌜ SetsCode
+        (input (now (left .entry)) (now (right .entry)) s (now (costs .entry)) c (now (cells .entry))
+        (now (handed .entry))) column (startOf start) (now (sets .entry)) (now (rows .entry)) r
+        (now (sets .exit)) (now (rows .exit)) ⌝ }
 {
     code(scorer::sets(
         left,
@@ -162,8 +167,9 @@ pub extern "C" fn fernijster_hand_up(
     row: &mut [u32],
     rows: &mut [u32],
 ) -> u64
-    ensures { λ r. ⌜ HandedUpCode (input (now (left .entry)) (now (right .entry)) s (now (costs .entry)) c (now (cells .entry)) (now (handed .entry))) column
-        (now (row .entry)) (now (rows .entry)) r (now (row .exit)) (now (rows .exit)) ⌝ }
+    ensures { λ r. ⌜ HandedUpCode
+        (input (now (left .entry)) (now (right .entry)) s (now (costs .entry)) c (now (cells .entry))
+        (now (handed .entry))) column (now (row .entry)) (now (rows .entry)) r (now (row .exit)) (now (rows .exit)) ⌝ }
 {
     code(scorer::hand_up(
         left,
@@ -202,7 +208,8 @@ pub extern "C" fn fernijster_count(
     column: u64,
     sets: &mut [u16],
 ) -> u64
-    ensures { λ r. ⌜ CountCode (input (now (left .entry)) (now (right .entry)) s (now (costs .entry)) c (now (cells .entry)) []) column
+    ensures { λ r. ⌜ CountCode
+        (input (now (left .entry)) (now (right .entry)) s (now (costs .entry)) c (now (cells .entry)) []) column
         (now (sets .entry)) r (now (sets .exit)) ⌝ }
 {
     count_code(scorer::count(

@@ -123,7 +123,8 @@ module _ (left right : List ℕ) (c : ℕ) (cells : List ℕ) (j : ℕ) where
       unfolding countedAt
       tip-count k r e = (
         ap (tipCell (cellAt c cells j)) e
-            ∙ sym (counted-tip (length left - 1) (kidsAt left right) rooted cellOf v (omega arith) (ap kidsOf (sym e)) .0),
+            ∙ sym (counted-tip (length left - 1) (kidsAt left right) rooted cellOf v (omega arith) (ap kidsOf (sym e))
+            .0),
         ap (λ q. merge (kidsOf q) 0 change setOf) e,
       )
 

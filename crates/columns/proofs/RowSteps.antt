@@ -67,7 +67,7 @@ module _ {left right : List ℕ} {s : ℕ} {costs : List ℕ} {c : ℕ} {cells e
           let tips = tips-most (nodeAt left right) handed (length left) in
           let nodes = ready .legal .size .most in
           omega arith in
-          let column : j ≤ 65535 = let inside = ready .inside in let columns = ready .cellsFit .columns in omega arith in
+          let column : j ≤ 65535 = omega (arith, ready .inside, ready .cellsFit .columns) in
           let product : j * t ≤ 65535 * 1023 = mul-le-mul column most in
           (omega arith, most, omega arith)
 

@@ -25,7 +25,7 @@ fn join(a: u16, b: u16) -> NodeCount
     NodeCount(common.0, 0)
 }
 
-// Node v's, where the sets of the nodes below it stand in the list. A handed tip has no cell: the empty set stands there.
+// Node v's, where the sets of the nodes below it stand in the list. A handed tip has no cell: it gets the empty set.
 fn node_count(
     left: &[u16],
     right: &[u16],
@@ -65,7 +65,8 @@ pub fn fill_prelims(
     requires { ⌜ Legal (now left) (now right) × (handedTips (now left) (now right) ≡ 0) ⌝ }
     requires { ⌜ (length (now cells) ≡ symbolTips (now left) (now right) * c) × (j < c) × (c ≤ 65535) ⌝ }
     requires { ⌜ length (now left) ≤ length (now sets) ⌝ }
-    ensures { λ r. ⌜ Prelims (now (left .entry)) (now (right .entry)) c (now (cells .entry)) j (now (sets .entry)) (now (sets .exit)) r ⌝ }
+    ensures { λ r. ⌜ Prelims (now (left .entry)) (now (right .entry)) c (now (cells .entry)) j
+        (now (sets .entry)) (now (sets .exit)) r ⌝ }
 {
     let mut changes: usize = 0;
     let mut v: usize = 0;

@@ -26,9 +26,11 @@ fn node_row(
     requires { ⌜ Ready (now left) (now right) s (now costs) c (now cells) (now handed) j ⌝ }
     requires { ⌜ h ≡ handedTips (now left) (now right) ⌝ }
     requires { ⌜ (v < length (now left)) × (length (now left) * s ≤ length (now rows)) ⌝ }
-    requires { ⌜ Holds (row (columnOf (now left) (now right) s (now costs) c (now cells) (now handed) j)) v s (now rows) ⌝ }
+    requires { ⌜ Holds (row (columnOf (now left) (now right) s (now costs) c (now cells) (now handed) j)) v s
+        (now rows) ⌝ }
     ensures { λ r. ⌜ Wrote (v * s) s
-        (row (columnOf (now (left .entry)) (now (right .entry)) s (now (costs .entry)) c (now (cells .entry)) (now (handed .entry)) j) v)
+        (row (columnOf (now (left .entry)) (now (right .entry)) s (now (costs .entry)) c (now (cells .entry))
+        (now (handed .entry)) j) v)
         (now (rows .entry)) (now (rows .exit)) ⌝ }
 {
     let at = v * s;
@@ -56,7 +58,8 @@ pub fn fill_rows(
     requires { ⌜ h ≡ handedTips (now left) (now right) ⌝ }
     requires { ⌜ length (now left) * s ≤ length (now rows) ⌝ }
     ensures { λ r. ⌜ RowRoom
-        (row (columnOf (now (left .entry)) (now (right .entry)) s (now (costs .entry)) c (now (cells .entry)) (now (handed .entry)) j))
+        (row (columnOf (now (left .entry)) (now (right .entry)) s (now (costs .entry)) c (now (cells .entry))
+        (now (handed .entry)) j))
         (length (now (left .entry))) s (now (rows .entry)) (now (rows .exit)) ⌝ }
 {
     let mut v: usize = 0;

@@ -54,6 +54,14 @@ symbol-agrees cell x = (
 pub place : (x y n s : ℕ) → x < n → y < s → x * s + y < n * s
 place x y n s h k = let step = suc-mul x s in let whole : suc x * s ≤ n * s = mul-le-mul-right s h in omega arith
 
+-- a symbol tip's cell in column j of c is one of the m cells, where m is the number of symbol tips times c
+pub cell-place : {left right : List ℕ} → Legal left right → (v : ℕ) → v < length left → (c j r m : ℕ)
+    → m ≡ tips symbol (nodeAt left right) (length left) * c → j < c → nodeAt left right v ≡ leaf symbol r → r * c + j < m
+cell-place {left} {right} legal v h c j r m count inside e =
+    let within = row-within (length left) (nodeAt left right) (legal .tree) v h symbol r e in
+    let at = place r j (tips symbol (nodeAt left right) (length left)) c within inside in
+    omega arith
+
 -- the column of n nodes, given the cost of a change, each matrix row's cell and each handed row
 abbrev column : ℕ → (ℕ → Node) → ℕ → (ℕ → ℕ → ℕ) → (ℕ → ℕ) → (ℕ → ℕ → ℕ) → Column
 column n node s cost cell row =

@@ -19,7 +19,7 @@ use Rattle.parsimony.specs.StateSet.{Member}
 use Rattle.parsimony.specs.Table.{Legal, symbol, handed, Node, leaf, inner, kidsOf, kidsAt, nodeAt, tips}
 use Rattle.parsimony.specs.TipKinds.{AgreesByKind, costByKind}
 use Rattle.parsimony.specs.Tree.{Kids, tip, two}
-use Rattle.parsimony.proofs.ColumnLaws.{place, column-sound, agrees-by-kind, cost-by-kind}
+use Rattle.parsimony.proofs.ColumnLaws.{cell-place, column-sound, agrees-by-kind, cost-by-kind}
 use Rattle.parsimony.proofs.PrelimLaws.{count-score, count-sets}
 use Rattle.parsimony.proofs.Scoring.{
   score-no-less,
@@ -100,12 +100,11 @@ module _ (left right : List ℕ) (s : ℕ) (costs : List ℕ) (c : ℕ) (cells e
           let w = row-within (length left) (nodeAt left right) (legal .tree) v inside-table handed k e in
           omega arith
 
-      cell-place : (v r : ℕ) → v ≤ length left - 1 → nodeAt left right v ≡ leaf symbol r
+      cell-at : (v r : ℕ) → v ≤ length left - 1 → nodeAt left right v ≡ leaf symbol r
           → r * c + j < tips symbol (nodeAt left right) (length left) * c
-      cell-place v r h e =
+      cell-at v r h e =
           let inside-table : v < length left = let n = some-node in omega arith in
-          let w = row-within (length left) (nodeAt left right) (legal .tree) v inside-table symbol r e in
-          place r j (tips symbol (nodeAt left right) (length left)) c w inside
+          cell-place legal v inside-table c j r _ refl inside e
 
       tip-rows : (v x : ℕ) → v ≤ length left - 1 → kidsAt left right v ≡ tip → x < s
           → col .entry v x ≡ cellEntry (tipCell (cellAt c cells j) (nodeAt left right v)) x
@@ -123,7 +122,7 @@ module _ (left right : List ℕ) (s : ℕ) (costs : List ℕ) (c : ℕ) (cells e
       tip-filled v h e = by-node (nodeAt left right v) refl e
         where
           by-node : (n : Node) → nodeAt left right v ≡ n → kidsOf n ≡ tip → 0 < tipCell (cellAt c cells j) n
-          by-node (leaf symbol r) e k = cellRules .filled (r * c + j) (cell-place v r h e)
+          by-node (leaf symbol r) e k = cellRules .filled (r * c + j) (cell-at v r h e)
           by-node (leaf handed r) e k = absurd (no-handed v r h e)
           by-node (inner a b) e k = absurd (two-not-tip a b k)
 
@@ -132,6 +131,6 @@ module _ (left right : List ℕ) (s : ℕ) (costs : List ℕ) (c : ℕ) (cells e
       tip-bits v h e = by-node (nodeAt left right v) refl e
         where
           by-node : (n : Node) → nodeAt left right v ≡ n → kidsOf n ≡ tip → tipCell (cellAt c cells j) n < 2 ^ s
-          by-node (leaf symbol r) e k = cellRules .bits (r * c + j) (cell-place v r h e)
+          by-node (leaf symbol r) e k = cellRules .bits (r * c + j) (cell-at v r h e)
           by-node (leaf handed r) e k = absurd (no-handed v r h e)
           by-node (inner a b) e k = absurd (two-not-tip a b k)

@@ -46,9 +46,12 @@ module _ (left right : List ℕ) (s : ℕ) (costs : List ℕ) (c : ℕ) (cells :
       let rules = none-handed s c (tipsIn handed table) (r .1 .1 .1 .1 .1 .1 .0 .1) in
       let inside = r .1 .1 .1 .1 .1 .0 in
       let unit = r .1 .1 .1 .1 .1 .1 .0 in
-      let scored = column-score left right s costs c cells [] j (count-legal r) (r .1 .1 .0) (r .1 .1 .1 .0) rules inside in
+      let legal = count-legal r in
+      let costsFit = r .1 .1 .0 in
+      let cellsFit = r .1 .1 .1 .0 in
+      let scored = column-score left right s costs c cells [] j legal costsFit cellsFit rules inside in
       let counted =
-      column-count left right s costs c cells [] j (count-legal r) (r .1 .1 .0) (r .1 .1 .1 .0) rules inside (unit .1) (unit .0) in
+      column-count left right s costs c cells [] j legal costsFit cellsFit rules inside (unit .1) (unit .0) in
       record {
         each = record {
           each = λ v h. ap (λ k. getD after k 0) (sym (zero-add v)) ∙ p .sets .wrote v h;
@@ -65,6 +68,7 @@ module _ (left right : List ℕ) (s : ℕ) (costs : List ℕ) (c : ℕ) (cells :
       let sound =
       column-sound left right s costs c cells [] j (count-legal r) (r .1 .1 .0) (r .1 .1 .1 .0) rules
       (r .1 .1 .1 .1 .1 .0) in
-      let same = score-unique (column table j) changes (score (column table j)) meant (score-least mostHanded (column table j) sound) in
+      let least = score-least mostHanded (column table j) sound in
+      let same = score-unique (column table j) changes (score (column table j)) meant least in
       let small = score-open mostHanded (column table j) sound in
       omega arith

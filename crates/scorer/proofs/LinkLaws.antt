@@ -65,7 +65,8 @@ module _ (I : Input) (rules : All (tableRules I [])) (j : ℕ) (inside : j < I .
   unfolding settled joined childSet reaches columnOf
   settled-is u w hu =
       gather-same _ _ (I .s)
-      (λ y hy. some-same _ _ (I .s) (λ x hx. ap (both (holds w x)) (ap₂ eqb (lane-through u x y hu hy) (lane-up u x hu))))
+      (λ y hy. some-same _ _ (I .s)
+      (λ x hx. ap (both (holds w x)) (ap₂ eqb (lane-through u x y hu hy) (lane-up u x hu))))
 
   root-entry : (x : ℕ) → x < I .s → entryAt rows ((nodes I - 1) * I .s) x ≡ row (column I j) (nodes I - 1) x
   root-entry x hx = held (nodes I - 1) x (let n = rules-node I rules in omega arith) hx

@@ -114,8 +114,15 @@ module _ (I : Input) (rules : All (tableRules I [])) (j : ℕ) (inside : j < I .
   score-right k e = subst (IsScore col) (sym e) (score-least mostHanded col sound)
 
   module _ (rows : List ℕ) (held : Holds (row col) (nodes I) (I .s) rows) where
+    -- what stands at the nodes comes down from the root by the choosing step, or by the set step, on the rows
+    abbrev Chosen : ℕ → (ℕ → ℕ) → Type 0
+    Chosen = Descent (nodes I - 1) (kidsAt (I .left) (I .right)) (chosen (I .s) (I .costs) rows)
+
+    abbrev Settled : ℕ → (ℕ → ℕ) → Type 0
+    Settled = Descent (nodes I - 1) (kidsAt (I .left) (I .right)) (settled (I .s) (I .costs) rows)
+
     -- states written down from a start are those of the labelling from it
-    labels-are : (x : ℕ) (l : ℕ → ℕ) → Descent (nodes I - 1) (kidsAt (I .left) (I .right)) (chosen (I .s) (I .costs) rows) x l
+    labels-are : (x : ℕ) (l : ℕ → ℕ) → Chosen x l
         → (v : ℕ) → v ≤ col .last → l v ≡ labelFrom lowest col x v
     unfolding columnOf
     labels-are x l down =
@@ -135,11 +142,11 @@ module _ (I : Input) (rules : All (tableRules I [])) (j : ℕ) (inside : j < I .
 
     -- without a start
     pub label-free : (x : ℕ) (l : ℕ → ℕ) → x ≡ freeStart col
-        → Descent (nodes I - 1) (kidsAt (I .left) (I .right)) (chosen (I .s) (I .costs) rows) x l → IsLabelling col Free l
+        → Chosen x l → IsLabelling col Free l
     unfolding label
     label-free x l e down =
-        let start : Descent (nodes I - 1) (kidsAt (I .left) (I .right)) (chosen (I .s) (I .costs) rows) (freeStart col) l =
-        subst (λ z. Descent (nodes I - 1) (kidsAt (I .left) (I .right)) (chosen (I .s) (I .costs) rows) z l) e down in
+        let start : Chosen (freeStart col) l =
+        subst (λ z. Chosen z l) e down in
         let same = labels-are (freeStart col) l start in
         record {
           least = (
@@ -152,7 +159,7 @@ module _ (I : Input) (rules : All (tableRules I [])) (j : ℕ) (inside : j < I .
 
     -- from a state that the root does not bar
     pub label-given : (x : ℕ) (l : ℕ → ℕ) → x < I .s → OpenRoot I j x
-        → Descent (nodes I - 1) (kidsAt (I .left) (I .right)) (chosen (I .s) (I .costs) rows) x l → IsLabelling col (Given x) l
+        → Chosen x l → IsLabelling col (Given x) l
     unfolding columnOf
     label-given x l hx open-root down =
         let same = labels-are x l down in
@@ -164,7 +171,7 @@ module _ (I : Input) (rules : All (tableRules I [])) (j : ℕ) (inside : j < I .
 
     -- sets written down from a start set are the sets from it
     sets-are : (w : ℕ) (S : ℕ → ℕ) → w < 2 ^ I .s
-        → Descent (nodes I - 1) (kidsAt (I .left) (I .right)) (settled (I .s) (I .costs) rows) w S
+        → Settled w S
         → (v : ℕ) → v ≤ col .last → S v ≡ setsFrom col w v
     unfolding columnOf
     sets-are w S hw down =
@@ -175,12 +182,12 @@ module _ (I : Input) (rules : All (tableRules I [])) (j : ℕ) (inside : j < I .
 
     -- without a start
     pub set-free : (w : ℕ) (S : ℕ → ℕ) → w ≡ freeSet col
-        → Descent (nodes I - 1) (kidsAt (I .left) (I .right)) (settled (I .s) (I .costs) rows) w S
+        → Settled w S
         → (v : ℕ) → v < nodes I → IsSet col Free v (S v)
     unfolding sets columnOf
     set-free w S e down v h =
-        let start : Descent (nodes I - 1) (kidsAt (I .left) (I .right)) (settled (I .s) (I .costs) rows) (freeSet col) S =
-        subst (λ z. Descent (nodes I - 1) (kidsAt (I .left) (I .right)) (settled (I .s) (I .costs) rows) z S) e down in
+        let start : Settled (freeSet col) S =
+        subst (λ z. Settled z S) e down in
         let within : v ≤ nodes I - 1 = omega arith in
         let same = sets-are (freeSet col) S (free-within col) start v within in
         subst (IsSet col Free v) (sym same)
@@ -191,7 +198,7 @@ module _ (I : Input) (rules : All (tableRules I [])) (j : ℕ) (inside : j < I .
 
     -- from a set of states that the root does not bar
     pub set-given : (w : ℕ) (S : ℕ → ℕ) → w < 2 ^ I .s → ((x : ℕ) → Member w x → OpenRoot I j x)
-        → Descent (nodes I - 1) (kidsAt (I .left) (I .right)) (settled (I .s) (I .costs) rows) w S
+        → Settled w S
         → (v : ℕ) → v < nodes I → IsSet col (Given w) v (S v)
     unfolding columnOf
     set-given w S hw open-root down v h =

@@ -40,8 +40,8 @@ sets-parts I j start a b = parts-of I ((j < I .c) × SetStart I j start) (Fits I
 pub hand-up-parts : (I : Input) (j a b : ℕ) → All (handUpRules I j a b) → Parts I (j < I .c) (Fits I (I .s) a b)
 hand-up-parts I j a b = parts-of I (j < I .c) (Fits I (I .s) a b)
 
--- the root's row lies in the row room
-pub root-inside : (n s len at : ℕ) → 0 < n → n * s ≤ len → at ≡ (n - 1) * s → at + s ≤ len
+-- the root's row lies in the row room, and so does a row at a place before it
+pub root-inside : (n s len at : ℕ) → 0 < n → n * s ≤ len → at ≤ (n - 1) * s → at + s ≤ len
 root-inside n s len at pos room e =
     let step = suc-mul (n - 1) s in
     let next : suc (n - 1) ≡ n = omega arith in

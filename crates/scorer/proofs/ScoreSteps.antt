@@ -36,8 +36,8 @@ scores-over I zero scores rows scores' rows' t k h = ap (λ l. getD l k 0) (t .n
 scores-over I (suc i) scores rows scores' rows' t k h = t .last i refl .over k h
 
 -- and one column more
-pub scores-more : (I : Input) (j k : ℕ) (scores rows scores' rows' next : List ℕ) → ScoresTo I j scores rows scores' rows'
-    → j < length scores' → IsScore (column I j) k → Worked I j rows' next
+pub scores-more : (I : Input) (j k : ℕ) (scores rows scores' rows' next : List ℕ)
+    → ScoresTo I j scores rows scores' rows' → j < length scores' → IsScore (column I j) k → Worked I j rows' next
     → ScoresTo I (j + 1) scores rows (set scores' j k) next
 scores-more I j k scores rows scores' rows' next t h right worked =
     record {
@@ -46,11 +46,13 @@ scores-more I j k scores rows scores' rows' next t h right worked =
             each = λ i hi. by-eq i j
                 (λ e. subst (λ z. IsScore (column I z) (getD (set scores' j k) z 0)) (sym e)
                 (subst (IsScore (column I j)) (sym (getD-set-same scores' j k 0 h)) right))
-                (λ ne. subst (IsScore (column I i)) (sym (getD-set-other scores' j i k 0 ne)) (t .each .each i (omega arith)));
+                (λ ne. subst (IsScore (column I i)) (sym (getD-set-other scores' j i k 0 ne))
+                (t .each .each i (omega arith)));
             kept =
                 record {
                   long = length-set scores' j k ∙ t .each .kept .long;
-                  over = λ i hi. getD-set-other scores' j i k 0 (λ e. omega arith) ∙ t .each .kept .over i (omega arith);
+                  over = λ i hi. getD-set-other scores' j i k 0 (λ e. omega arith)
+                      ∙ t .each .kept .over i (omega arith);
                 };
           };
       long = worked .long ∙ t .long;

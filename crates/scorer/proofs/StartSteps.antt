@@ -25,7 +25,8 @@ use Rattle.scorer.proofs.ResultLaws.{label-free, label-given, set-free,
 
 module _ (I : Input) (rules : All (tableRules I [])) (j : ℕ) (inside : j < I .c) (rows : List ℕ) where
   -- the root's state is a state
-  pub start-state : (start : Start) → StateStart I j start → stateOf start (low (entryAt rows ((nodes I - 1) * I .s)) (I .s)) < I .s
+  pub start-state : (start : Start) → StateStart I j start
+      → stateOf start (low (entryAt rows ((nodes I - 1) * I .s)) (I .s)) < I .s
   start-state Free fits = low-within _ (I .s) (rules-state I rules)
   start-state (Given x) fits = fits .0
 
@@ -51,5 +52,6 @@ module _ (I : Input) (rules : All (tableRules I [])) (j : ℕ) (inside : j < I .
         → Descent (nodes I - 1) (kidsAt (I .left) (I .right)) (settled (I .s) (I .costs) rows)
         (stateOf start (leastSet rows ((nodes I - 1) * I .s) (I .s) (I .s))) S
         → (v : ℕ) → v < nodes I → IsSet (column I j) start v (S v)
-    sets-right Free S fits down v h = set-free I rules j inside rows held _ S (start-set-is I rules j inside rows held) down v h
+    sets-right Free S fits down v h =
+        set-free I rules j inside rows held _ S (start-set-is I rules j inside rows held) down v h
     sets-right (Given w) S fits down v h = set-given I rules j inside rows held w S (fits .1) (fits .2) down v h

@@ -22,7 +22,7 @@ use Rattle.scorer.specs.declared.Counted.{Counted}
 abbrev pub Worked : Input → ℕ → List ℕ → List ℕ → Type 0
 Worked I j before after = RowRoom (row (column I j)) (nodes I) (I .s) before after
 
--- what scoring has written: each column's score; the row room holds the last column, and is as it was where there is none
+-- what scoring has written: each column's score; the row room holds the last column, and is as it was if there is none
 pub record ScoresWritten (I : Input) (scores rows scores' rows' : List ℕ) : Type 0 where
   pub each : Listed (I .c) (λ j k. IsScore (column I j) k) scores scores'
   pub none : I .c ≡ 0 → rows' ≡ rows

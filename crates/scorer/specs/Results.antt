@@ -36,8 +36,8 @@ pub record IsSet (P : Column) (start : Start) (v w : ℕ) : Type 0 where
   pub within : w < 2 ^ P .states
   pub members : (y : ℕ) → Member w y ↔ TakenBy P start v y
 
--- e is the entry of state x that a branch hands up: the least cost with the root in x, or barred where no labelling that
--- agrees with the tips has the root in x
+-- e is the entry of state x that a branch hands up: the least cost with the root in x, or barred where no labelling
+-- that agrees with the tips has the root in x
 pub record IsEntry (P : Column) (x e : ℕ) : Type 0 where
   pub small : e ≤ barred
   pub reached : (e ≡ barred → ⊥) → (l : ℕ → ℕ) × LeastFrom P x l × (costOf P l ≡ e)

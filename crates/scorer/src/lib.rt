@@ -11,15 +11,27 @@ ghost use Rattle.answers.specs.Rules.{All};
 ghost use Rattle.parsimony.specs.Least.{low};
 ghost use Rattle.steps.specs.Lane.{entryAt, leastSet};
 ghost use Rattle.scorer.specs.Starts.{stateOf};
-ghost use Rattle.scorer.specs.Promises.{Worked, ScoresWritten, Scored, LabelsWritten, Labelled, SetsWritten, SetsFound, RowWritten, HandedUp, CountedBySets};
+ghost use Rattle.scorer.specs.Promises.{
+  Worked,
+  ScoresWritten,
+  Scored,
+  LabelsWritten,
+  Labelled,
+  SetsWritten,
+  SetsFound,
+  RowWritten,
+  HandedUp,
+  CountedBySets,
+};
 use answers::Answer;
 use answers::Refusal;
 use answers::Start;
-use answers::tests::count_tests;
-use answers::tests::hand_up_tests;
-use answers::tests::label_tests;
-use answers::tests::score_tests;
-use answers::tests::sets_tests;
+use answers::calls::count_tests;
+use answers::calls::hand_up_tests;
+use answers::calls::label_tests;
+use answers::calls::score_tests;
+use answers::calls::sets_tests;
+use answers::starts::narrow;
 use columns::count::fill_prelims;
 use columns::up::fill_rows;
 use descents::fill_sets;
@@ -57,10 +69,15 @@ fn score_column(
     j: usize,
     rows: &mut [u32],
 ) -> u32
-    requires { ⌜ All (scoreRules (input (now left) (now right) s (now costs) c (now cells) (now handed)) c (length (now rows))) ⌝ }
-    requires { ⌜ (j < c) × (h ≡ tipsIn Kind.handed (input (now left) (now right) s (now costs) c (now cells) (now handed))) ⌝ }
-    ensures { λ r. ⌜ IsScore (column (input (now (left .entry)) (now (right .entry)) s (now (costs .entry)) c (now (cells .entry)) (now (handed .entry))) j) r
-        × Worked (input (now (left .entry)) (now (right .entry)) s (now (costs .entry)) c (now (cells .entry)) (now (handed .entry))) j (now (rows .entry)) (now (rows .exit)) ⌝ }
+    requires { ⌜ All (scoreRules (input (now left) (now right) s (now costs) c (now cells) (now handed)) c
+        (length (now rows))) ⌝ }
+    requires { ⌜ (j < c) × (h ≡ tipsIn Kind.handed
+        (input (now left) (now right) s (now costs) c (now cells) (now handed))) ⌝ }
+    ensures { λ r. ⌜ IsScore (column
+        (input (now (left .entry)) (now (right .entry)) s (now (costs .entry)) c (now (cells .entry))
+        (now (handed .entry))) j) r × Worked
+        (input (now (left .entry)) (now (right .entry)) s (now (costs .entry)) c (now (cells .entry))
+        (now (handed .entry))) j (now (rows .entry)) (now (rows .exit)) ⌝ }
 {
     fill_rows(left, right, s, costs, c, cells, h, handed, j, rows);
     least_entry(rows, root_place(left.len(), s), s)
@@ -78,9 +95,11 @@ fn score_columns(
     scores: &mut [u32],
     rows: &mut [u32],
 )
-    requires { ⌜ All (scoreRules (input (now left) (now right) s (now costs) c (now cells) (now handed)) (length (now scores)) (length (now rows))) ⌝ }
-    ensures { λ r. ⌜ ScoresWritten (input (now (left .entry)) (now (right .entry)) s (now (costs .entry)) c (now (cells .entry)) (now (handed .entry)))
-        (now (scores .entry)) (now (rows .entry)) (now (scores .exit)) (now (rows .exit)) ⌝ }
+    requires { ⌜ All (scoreRules (input (now left) (now right) s (now costs) c (now cells) (now handed))
+        (length (now scores)) (length (now rows))) ⌝ }
+    ensures { λ r. ⌜ ScoresWritten
+        (input (now (left .entry)) (now (right .entry)) s (now (costs .entry)) c (now (cells .entry))
+        (now (handed .entry))) (now (scores .entry)) (now (rows .entry)) (now (scores .exit)) (now (rows .exit)) ⌝ }
 {
     let h = tips_of(left, right, true);
     let mut j = 0;
@@ -102,8 +121,9 @@ pub fn score(
     scores: &mut [u32],
     rows: &mut [u32],
 ) -> Answer
-    ensures { λ r. ⌜ Scored (input (now (left .entry)) (now (right .entry)) s (now (costs .entry)) c (now (cells .entry)) (now (handed .entry)))
-        (now (scores .entry)) (now (rows .entry)) r (now (scores .exit)) (now (rows .exit)) ⌝ }
+    ensures { λ r. ⌜ Scored
+        (input (now (left .entry)) (now (right .entry)) s (now (costs .entry)) c (now (cells .entry))
+        (now (handed .entry))) (now (scores .entry)) (now (rows .entry)) r (now (scores .exit)) (now (rows .exit)) ⌝ }
 {
     let answer = score_tests(
         left,
@@ -148,9 +168,12 @@ fn label_column(
     states: &mut [u8],
     rows: &mut [u32],
 )
-    requires { ⌜ All (labelRules (input (now left) (now right) s (now costs) c (now cells) (now handed)) j start (length (now states)) (length (now rows))) ⌝ }
-    ensures { λ r. ⌜ LabelsWritten (input (now (left .entry)) (now (right .entry)) s (now (costs .entry)) c (now (cells .entry)) (now (handed .entry))) j start
-        (now (states .entry)) (now (rows .entry)) (now (states .exit)) (now (rows .exit)) ⌝ }
+    requires { ⌜ All (labelRules (input (now left) (now right) s (now costs) c (now cells) (now handed)) j start
+        (length (now states)) (length (now rows))) ⌝ }
+    ensures { λ r. ⌜ LabelsWritten
+        (input (now (left .entry)) (now (right .entry)) s (now (costs .entry)) c (now (cells .entry))
+        (now (handed .entry))) j start (now (states .entry)) (now (rows .entry))
+        (now (states .exit)) (now (rows .exit)) ⌝ }
 {
     let h = tips_of(left, right, true);
     fill_rows(left, right, s, costs, c, cells, h, handed, j, rows);
@@ -172,8 +195,10 @@ pub fn label(
     states: &mut [u8],
     rows: &mut [u32],
 ) -> Answer
-    ensures { λ r. ⌜ Labelled (input (now (left .entry)) (now (right .entry)) s (now (costs .entry)) c (now (cells .entry)) (now (handed .entry))) j start
-        (now (states .entry)) (now (rows .entry)) r (now (states .exit)) (now (rows .exit)) ⌝ }
+    ensures { λ r. ⌜ Labelled
+        (input (now (left .entry)) (now (right .entry)) s (now (costs .entry)) c (now (cells .entry))
+        (now (handed .entry))) j start (now (states .entry)) (now (rows .entry)) r
+        (now (states .exit)) (now (rows .exit)) ⌝ }
 {
     let answer = label_tests(
         left,
@@ -207,13 +232,6 @@ pub fn label(
     Answer::Done
 }
 
-fn narrow(set: usize) -> u16
-    requires { ⌜ set < 65536 ⌝ }
-    ensures { λ r. ⌜ r ≡ set ⌝ }
-{
-    set as u16
-}
-
 // The root's set: the one given, or the states at which its row is least.
 fn root_set(rows: &[u32], at: usize, s: usize, start: Start) -> u16
     requires { ⌜ (at + s ≤ length (now rows)) × (0 < s) × (s ≤ 16) ⌝ }
@@ -240,9 +258,11 @@ fn set_column(
     sets: &mut [u16],
     rows: &mut [u32],
 )
-    requires { ⌜ All (setsRules (input (now left) (now right) s (now costs) c (now cells) (now handed)) j start (length (now sets)) (length (now rows))) ⌝ }
-    ensures { λ r. ⌜ SetsWritten (input (now (left .entry)) (now (right .entry)) s (now (costs .entry)) c (now (cells .entry)) (now (handed .entry))) j start
-        (now (sets .entry)) (now (rows .entry)) (now (sets .exit)) (now (rows .exit)) ⌝ }
+    requires { ⌜ All (setsRules (input (now left) (now right) s (now costs) c (now cells) (now handed)) j start
+        (length (now sets)) (length (now rows))) ⌝ }
+    ensures { λ r. ⌜ SetsWritten
+        (input (now (left .entry)) (now (right .entry)) s (now (costs .entry)) c (now (cells .entry))
+        (now (handed .entry))) j start (now (sets .entry)) (now (rows .entry)) (now (sets .exit)) (now (rows .exit)) ⌝ }
 {
     let h = tips_of(left, right, true);
     fill_rows(left, right, s, costs, c, cells, h, handed, j, rows);
@@ -264,8 +284,10 @@ pub fn sets(
     sets: &mut [u16],
     rows: &mut [u32],
 ) -> Answer
-    ensures { λ r. ⌜ SetsFound (input (now (left .entry)) (now (right .entry)) s (now (costs .entry)) c (now (cells .entry)) (now (handed .entry))) j start
-        (now (sets .entry)) (now (rows .entry)) r (now (sets .exit)) (now (rows .exit)) ⌝ }
+    ensures { λ r. ⌜ SetsFound
+        (input (now (left .entry)) (now (right .entry)) s (now (costs .entry)) c (now (cells .entry))
+        (now (handed .entry))) j start (now (sets .entry)) (now (rows .entry)) r
+        (now (sets .exit)) (now (rows .exit)) ⌝ }
 {
     let answer = sets_tests(
         left,
@@ -312,9 +334,11 @@ fn row_column(
     row: &mut [u32],
     rows: &mut [u32],
 )
-    requires { ⌜ All (handUpRules (input (now left) (now right) s (now costs) c (now cells) (now handed)) j (length (now row)) (length (now rows))) ⌝ }
-    ensures { λ r. ⌜ RowWritten (input (now (left .entry)) (now (right .entry)) s (now (costs .entry)) c (now (cells .entry)) (now (handed .entry))) j
-        (now (row .entry)) (now (rows .entry)) (now (row .exit)) (now (rows .exit)) ⌝ }
+    requires { ⌜ All (handUpRules (input (now left) (now right) s (now costs) c (now cells) (now handed)) j
+        (length (now row)) (length (now rows))) ⌝ }
+    ensures { λ r. ⌜ RowWritten
+        (input (now (left .entry)) (now (right .entry)) s (now (costs .entry)) c (now (cells .entry))
+        (now (handed .entry))) j (now (row .entry)) (now (rows .entry)) (now (row .exit)) (now (rows .exit)) ⌝ }
 {
     let h = tips_of(left, right, true);
     fill_rows(left, right, s, costs, c, cells, h, handed, j, rows);
@@ -334,8 +358,9 @@ pub fn hand_up(
     row: &mut [u32],
     rows: &mut [u32],
 ) -> Answer
-    ensures { λ r. ⌜ HandedUp (input (now (left .entry)) (now (right .entry)) s (now (costs .entry)) c (now (cells .entry)) (now (handed .entry))) j
-        (now (row .entry)) (now (rows .entry)) r (now (row .exit)) (now (rows .exit)) ⌝ }
+    ensures { λ r. ⌜ HandedUp
+        (input (now (left .entry)) (now (right .entry)) s (now (costs .entry)) c (now (cells .entry))
+        (now (handed .entry))) j (now (row .entry)) (now (rows .entry)) r (now (row .exit)) (now (rows .exit)) ⌝ }
 {
     let answer = hand_up_tests(
         left,

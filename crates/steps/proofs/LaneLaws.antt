@@ -22,7 +22,8 @@ unfolding lane
 lane-within costs from rows at s y cheap calm h =
     let w = cheap .cheap y h in
     let e = plus-le (getD costs (from + y) 0) (getD rows (at + y) 0) in
-    ⊎-elim (λ k. inl (omega arith)) (λ b. inr (plus-right (getD costs (from + y) 0) (getD rows (at + y) 0) b)) (calm .calm y h)
+    ⊎-elim (λ k. inl (omega arith)) (λ b. inr (plus-right (getD costs (from + y) 0) (getD rows (at + y) 0) b))
+    (calm .calm y h)
 
 -- and so is the least of a lane
 pub least-within : (costs : List ℕ) (from : ℕ) (rows : List ℕ) (at s : ℕ) → Cheap costs from s → Calm rows at s → 0 < s

@@ -16,7 +16,16 @@ use Rattle.parsimony.specs.StateSet.{Member, holds, one, union, gather}
 use Rattle.parsimony.specs.Tells.{Tells}
 use Rattle.parsimony.specs.Test.{pick, both, some}
 use Rattle.parsimony.proofs.Order.{pick-true, pick-false}
-use Rattle.parsimony.proofs.StateCountLaws.{by-test, gather-within, gather-member, gather-same, some-true, some-here, both-right, both-true}
+use Rattle.parsimony.proofs.StateCountLaws.{
+  by-test,
+  gather-within,
+  gather-member,
+  gather-same,
+  some-true,
+  some-here,
+  both-right,
+  both-true,
+}
 use Rattle.parsimony.proofs.StateSetLaws.{holds-true, holds-false, union-member, set-same}
 use Rattle.steps.specs.Lane.{entryAt, lane, reached, joined, leastSet}
 
@@ -129,7 +138,8 @@ module _ (costs : List ℕ) (rows : List ℕ) (at s w : ℕ) where
       let hx : holds w x ≡ true = holds-true w x (subst (Tells (Member w x)) e told .told) in
       ap (λ k. union k (reached costs (x * s) rows at s s)) (joined-gather x)
       ∙ ap (union (gather (λ y. some (test y) x) s)) (reached-gather x)
-      ∙ set-same s _ _ (or-lt s _ _ (gather-within _ s) (gather-within _ s)) (gather-within _ s) (λ y hy. (to y hy hx, from y hy hx))
+      ∙ set-same s _ _ (or-lt s _ _ (gather-within _ s) (gather-within _ s)) (gather-within _ s)
+      (λ y hy. (to y hy hx, from y hy hx))
       ∙ sym (joined-gather (x + 1))
     where
       to : (y : ℕ) → y < s → holds w x ≡ true → Member (union (gather (λ y. some (test y) x) s) (gather (reach x) s)) y

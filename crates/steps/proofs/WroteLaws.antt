@@ -15,8 +15,8 @@ wrote-none at f l =
     record { long = refl; wrote = λ i h. absurd (omega arith); under = λ i h. refl; over = λ i h. refl }
 
 -- one entry more
-pub wrote-more : (at n v : ℕ) (f : ℕ → ℕ) (before now : List ℕ) → Wrote at n f before now → at + n < length now → v ≡ f n
-    → Wrote at (n + 1) f before (set now (at + n) v)
+pub wrote-more : (at n v : ℕ) (f : ℕ → ℕ) (before now : List ℕ) → Wrote at n f before now → at + n < length now
+    → v ≡ f n → Wrote at (n + 1) f before (set now (at + n) v)
 wrote-more at n v f before now w h e =
     record {
       long = length-set now (at + n) v ∙ w .long;

@@ -172,7 +172,8 @@ pub fn inner_row(costs: &[u16], rows: &mut [u32], a: usize, b: usize, at: usize,
     requires { ⌜ Calm (now rows) a s × Calm (now rows) b s ⌝ }
     requires { ⌜ (0 < s) × (s ≤ 16) ⌝ }
     requires { ⌜ (a + s ≤ at) × (b + s ≤ at) × (at + s ≤ length (now rows)) ⌝ }
-    ensures { λ r. ⌜ Wrote at s (joinAt (now (costs .entry)) s (now (rows .entry)) a b) (now (rows .entry)) (now (rows .exit)) ⌝ }
+    ensures { λ r. ⌜ Wrote at s (joinAt (now (costs .entry)) s (now (rows .entry)) a b)
+        (now (rows .entry)) (now (rows .exit)) ⌝ }
 {
     let mut x = 0;
     let mut from = 0;

@@ -1,5 +1,5 @@
--- What a yes or no tells of all numbers below a bound; a bound of powers; and how the tests of the entries add up to the
--- rules of costs, cells and handed rows.
+-- What a yes or no tells of all numbers below a bound; a bound of powers; and how the tests of the entries add up to
+-- the rules of costs, cells and handed rows.
 -- Assumes nothing.
 use mathlib.Core.Bool.{Bool, true, false}
 use mathlib.Core.List.{List}

@@ -3,3 +3,4 @@
 pub mod ShapeSteps
 pub mod MarkLaws
 pub mod VisitLaws
+pub mod FoundLaws

@@ -1,22 +1,33 @@
 -- Laws of a visit: the marks at one node more, and that the marks tell whether a node keeps the rules.
 -- Assumes nothing.
-use mathlib.Core.Bool.{Bool, true, false, not}
+use mathlib.Core.Bool.{Bool, true, false}
 use mathlib.Core.List.{List}
-use mathlib.Core.Path.{_≡_, sym, _∙_, subst}
-use Prim.Native.Nat.{ℕ, suc, _+_, _≤_, _<_}
+use mathlib.Core.Path.{_≡_, refl, sym, _∙_, subst}
+use Prim.Native.Nat.{ℕ, _+_, _≤_, _<_}
 use native.Mathlib.Omega.{arith}
-use borrow.Author.Tests.{not-true, not-false}
 use lib.ListN.{getD}
-use Rattle.parsimony.specs.Fault.{KeepsEntries, Keeps}
+use Rattle.parsimony.specs.Fault.{KeepsEntries}
 use Rattle.parsimony.specs.Table.{Kind, symbol, handed, Node, leaf, inner, kidsOf, names, tips, rowUses, childUses}
-use Rattle.parsimony.specs.Tells.{Tells}
 use Rattle.parsimony.specs.Test.{at}
 use Rattle.parsimony.specs.Tree.{each}
-use Rattle.parsimony.proofs.TellsLaws.{unless-yes, unless-no}
-use Rattle.trees.specs.Marks.{Counted, Most, Raised}
-use Rattle.trees.specs.Visit.{forKind, MarksKeep, Surveyed, Marked, Ready, VisitedBy, Visited}
+use Rattle.trees.specs.Marks.{Counted, Most, Raised, Took}
+use Rattle.trees.specs.Visit.{forKind, Surveyed, Marked, Ready, VisitedBy, Visited}
 use Rattle.trees.proofs.ShapeSteps.{tips-most, rows-none, uses-none}
-use Rattle.trees.proofs.MarkLaws.{counted-same, children-low, rows-low, children-counted, rows-counted}
+use Rattle.trees.proofs.MarkLaws.{
+  raised-none,
+  counted-same,
+  children-low,
+  rows-low,
+  children-counted,
+  rows-counted,
+}
+
+-- The entries of a node with number v keep their rules, by the marks of the lower nodes' uses: seen for children, rows
+-- for the matrix rows, of which there are t, and given for the handed rows, of which there are h.
+abbrev MarksKeep : ℕ → ℕ → ℕ → List ℕ → List ℕ → List ℕ → Node → Type 0
+MarksKeep v t h seen rows given (leaf k r) = (r < forKind k t h) × (getD (forKind k rows given) r 0 ≡ 0)
+MarksKeep v t h seen rows given (inner a b) =
+    (a < v) × (b < v) × (a ≡ b → ⊥) × (getD seen a 0 ≡ 0) × (getD seen b 0 ≡ 0)
 
 -- what holds of both kinds holds of each
 by-kind : (P : Kind → Type 0) → P symbol → P handed → (k : Kind) → P k
@@ -24,10 +35,9 @@ by-kind P a b symbol = a
 by-kind P a b handed = b
 
 -- a survey of n nodes
-pub surveyed : {n : ℕ} {node : ℕ → Node} {t h : ℕ} {used : List ℕ} → n ≤ 1023 → t ≡ tips symbol node n
-    → h ≡ tips handed node n → Counted (childUses node n) used → Surveyed n node t h used
-surveyed {n} {node} {t} {h} m a b c =
-    record { most = m; kinds = by-kind (λ k. forKind k t h ≡ tips k node n) a b; children = c }
+pub surveyed : {n : ℕ} {node : ℕ → Node} {t h : ℕ} → n ≤ 1023 → t ≡ tips symbol node n → h ≡ tips handed node n
+    → Surveyed n node t h
+surveyed {n} {node} {t} {h} m a b = record { most = m; kinds = by-kind (λ k. forKind k t h ≡ tips k node n) a b }
 
 -- marks of no nodes
 pub marked-none : (node : ℕ → Node) (seen rows given : List ℕ) → Counted (λ w. 0) seen → Counted (λ w. 0) rows
@@ -53,27 +63,21 @@ marked-next {node} {v} {x} {rows = rows} {given} {rows' = rows'} {given'} e m a 
           (rows-counted node v x e handed given given' (m .kinds handed) c);
     }
 
--- what the answer to a visit says, once it is known to be yes or no
-pub visited-yes : {n : ℕ} {node : ℕ → Node} {v : ℕ} {seen rows given : List ℕ} {b : Bool}
-    → Visited n node v seen rows given b → not b ≡ false → Keeps n node v × Marked node (v + 1) seen rows given
-visited-yes {n} {node} {v} {seen} {rows} {given} {b} h e =
-    subst (VisitedBy n node v seen rows given) (not-false b e) (h .visited)
+-- what the answer to a visit says, once it is known to be d
+pub visited-as : (d : Bool) {n : ℕ} {node : ℕ → Node} {v : ℕ} {seen rows given : List ℕ} {b : Bool}
+    → Visited n node v seen rows given b → b ≡ d → VisitedBy n node v seen rows given d
+visited-as d {n} {node} {v} {seen} {rows} {given} h e = subst (VisitedBy n node v seen rows given) e (h .visited)
 
-pub visited-no : {n : ℕ} {node : ℕ → Node} {v : ℕ} {seen rows given : List ℕ} {b : Bool}
-    → Visited n node v seen rows given b → not b ≡ true → Keeps n node v → ⊥
-visited-no {n} {node} {v} {seen} {rows} {given} {b} h e =
-    subst (VisitedBy n node v seen rows given) (not-true b e) (h .visited)
-
-module _ {n : ℕ} {node : ℕ → Node} {v t h : ℕ} {used seen rows given : List ℕ}
-    (here : Ready n node v t h used seen rows given) where
+module _ {n : ℕ} {node : ℕ → Node} {v t h : ℕ} {seen rows given : List ℕ}
+    (here : Ready n node v t h seen rows given) where
   -- the marks have an entry for each node and row that the rules allow
-  pub marks-room : (v ≤ 1023) × (t ≤ 1023) × (h ≤ 1023)
-  marks-room =
-      let ts = here .survey .kinds symbol in
-      let hs = here .survey .kinds handed in
-      let few = tips-most node symbol n in
-      let few' = tips-most node handed n in
-      (omega arith, omega arith, omega arith)
+  pub marks-room : (v ≤ 1023) × ((k : Kind) → forKind k t h ≤ 1023)
+  marks-room = (
+    omega (arith, here .within, here .survey .most),
+    λ k. let same = here .survey .kinds k in
+        let few = tips-most node k n in
+        omega (arith, here .survey .most),
+  )
 
   -- the marks are far from the most that an entry holds
   pub seen-room : Most 65533 seen
@@ -102,26 +106,40 @@ module _ {n : ℕ} {node : ℕ → Node} {v t h : ℕ} {used seen rows given : L
   entries-marks (leaf k r) (i, z) = (subst (λ m. r < m) (sym (here .survey .kinds k)) i, row-mark k r i ∙ z)
   entries-marks (inner a b) (i, j, ne, y, z) = (i, j, ne, child-mark a i ∙ y, child-mark b j ∙ z)
 
-  -- the mark of a node that is not the last
-  use-mark : suc v < n → getD used v 0 ≡ childUses node n v
-  use-mark i = here .survey .children .entry v (omega arith)
-
-  -- a node x with number v whose entries do not keep the rules by the marks
-  pub entries-broken : {x : Node} {b : Bool} → x ≡ node v → Tells (MarksKeep v t h seen rows given x) b
-      → not b ≡ true → Keeps n node v → ⊥
-  entries-broken {x} e m w k =
-      unless-no m w (entries-marks x (subst (KeepsEntries n node v) (sym e) (k .entries)))
-
-  -- a node that is not the last and has no use by the marks
-  pub use-broken : {b : Bool} → Tells ((suc v < n → 1 ≤ getD used v 0)) b → not b ≡ true → Keeps n node v → ⊥
-  use-broken m w k =
-      unless-no m w (λ i. let same = use-mark i in let some = k .used i in omega arith)
-
-  -- a node with neither fault keeps the rules
-  pub both-keep : {x : Node} {a b : Bool} → x ≡ node v → Tells (MarksKeep v t h seen rows given x) a → not a ≡ false
-      → Tells ((suc v < n → 1 ≤ getD used v 0)) b → not b ≡ false → Keeps n node v
-  both-keep {x} e m w p z =
+  -- a visit of node v, which is x, from what the marks tell and what is added to them
+  visit-yes : {x : Node} {seen' rows' given' : List ℕ} → x ≡ node v → MarksKeep v t h seen rows given x
+      → Raised (λ w. each (at w 1) (kidsOf x)) seen seen' → Raised (λ w. names symbol w x) rows rows'
+      → Raised (λ w. names handed w x) given given' → Visited n node v seen' rows' given' true
+  visit-yes {x} e m a b c =
       record {
-        entries = subst (KeepsEntries n node v) e (marks-entries x (unless-yes m w));
-        used = λ i. let same = use-mark i in let one = unless-yes p z i in omega arith;
+        visited = (
+          subst (KeepsEntries n node v) e (marks-entries x m),
+          marked-next e (here .marks) a b c,
+        );
       }
+
+  visit-no : {x : Node} → x ≡ node v → (MarksKeep v t h seen rows given x → ⊥) → Visited n node v seen rows given false
+  visit-no {x} e m =
+      record { visited = (λ k. m (entries-marks x (subst (KeepsEntries n node v) (sym e) k)), here .marks) }
+
+  -- the visit of a tip of kind k, whose row is taken if it is free
+  pub visit-tip : (k : Kind) {r : ℕ} {out : List ℕ} {b : Bool} → leaf k r ≡ node v
+      → Took ((r < forKind k t h) × (getD (forKind k rows given) r 0 ≡ 0)) (λ w. at w 1 r) (forKind k rows given) out b
+      → Visited n node v seen (forKind k out rows) (forKind k given out) b
+  visit-tip symbol {b = true} e took =
+      visit-yes e (took .took .0) (raised-none _ _ (λ w i. refl)) (took .took .1) (raised-none _ _ (λ w i. refl))
+  visit-tip handed {b = true} e took =
+      visit-yes e (took .took .0) (raised-none _ _ (λ w i. refl)) (raised-none _ _ (λ w i. refl)) (took .took .1)
+  visit-tip symbol {b = false} e took =
+      subst (λ l. Visited n node v seen l given false) (sym (took .took .1)) (visit-no e (took .took .0))
+  visit-tip handed {b = false} e took =
+      subst (λ l. Visited n node v seen rows l false) (sym (took .took .1)) (visit-no e (took .took .0))
+
+  -- the visit of an inner node, whose children are taken if they are free
+  pub visit-inner : {a b : ℕ} {out : List ℕ} {d : Bool} → inner a b ≡ node v
+      → Took ((a < v) × (b < v) × (a ≡ b → ⊥) × (getD seen a 0 ≡ 0) × (getD seen b 0 ≡ 0))
+      (λ w. at w 1 a + at w 1 b) seen out d → Visited n node v out rows given d
+  visit-inner {d = true} e took =
+      visit-yes e (took .took .0) (took .took .1) (raised-none _ _ (λ w i. refl)) (raised-none _ _ (λ w i. refl))
+  visit-inner {d = false} e took =
+      subst (λ l. Visited n node v l rows given false) (sym (took .took .1)) (visit-no e (took .took .0))

@@ -15,7 +15,9 @@ enum-known-answer : tie.Need-enum-known-answer
 enum-known-answer c = search needs
 
 refusal-code-requires : tie.Need-refusal-code-requires
-refusal-code-requires c κs = subst (λ a. carriedBy a < 72057594037927936) (c .before .answer .given .1) (c .before .before .before .pre)
+refusal-code-requires c κs =
+    let start = c .before .before .before in
+    subst (λ a. carriedBy a < 72057594037927936) (c .before .answer .given .1) (start .pre)
 
 returns : tie.Need-returns
 returns c = ap codeOf (sym (c .enum-told .given .1))

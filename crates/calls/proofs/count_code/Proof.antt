@@ -17,14 +17,17 @@ enum-known-counted c = search needs
 
 mul-result : tie.Need-mul-result
 mul-result c =
-    let small = subst (λ a. changesOf a < 72057594037927936) (c .before .counted .given .1) (c .before .before .before .pre .1) in
+    let start = c .before .before .before in
+    let small = subst (λ a. changesOf a < 72057594037927936) (c .before .counted .given .1) (start .pre .1) in
     omega arith
 
 enum-known-counted-2 : tie.Need-enum-known-counted-2
 enum-known-counted-2 c = search needs
 
 refusal-code-requires : tie.Need-refusal-code-requires
-refusal-code-requires c κs = subst (λ a. carriedBy (answerOf a) < 72057594037927936) (c .before .counted2 .given .1) (c .before .before .before .pre .0)
+refusal-code-requires c κs =
+    let start = c .before .before .before in
+    subst (λ a. carriedBy (answerOf a) < 72057594037927936) (c .before .counted2 .given .1) (start .pre .0)
 
 returns : tie.Need-returns
 returns c =
@@ -32,7 +35,11 @@ returns c =
     zero-first k ∙ ap countCode (sym (c .before .counted .given .1))
 
 returns-2 : tie.Need-returns-2
-returns-2 c = c .refusal-code .ensures ∙ plus-none (codeOf (Refused (c .before .before .counted2 .given .0 .0))) ∙ ap countCode (sym (c .before .before .counted2 .given .1))
+returns-2 c =
+    let counted2 = c .before .before .counted2 in
+    c .refusal-code .ensures
+    ∙ plus-none (codeOf (Refused (counted2 .given .0 .0)))
+    ∙ ap countCode (sym (counted2 .given .1))
 
 pub count-code-spec : {M : Type 1} → statement M
 count-code-spec =

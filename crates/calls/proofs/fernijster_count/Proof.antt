@@ -11,16 +11,20 @@ count-requires c κs = search needs
 
 count-code-requires : tie.Need-count-code-requires
 count-code-requires c κs =
+    let count = c .before .before .count in
+    let start = c .before .before .before .before .before .before .before .before .before in
     let small =
-    counted-small (c .before .before .before .before .before .before .before .before .before .args .left .now) (c .before .before .before .before .before .before .before .before .before .args .right .now) (c .before .before .before .before .before .before .before .before .before .args .s) (c .before .before .before .before .before .before .before .before .before .args .costs .now) (c .before .before .before .before .before .before .before .before .before .args .c) (c .before .before .before .before .before .before .before .before .before .args .cells .now)
-    (c .before .before .before .before .before .before .before .before .before .args .column) _ _ (c .before .before .count .result) (c .before .before .count .ensures) in
+    counted-small (start .args .left .now) (start .args .right .now) (start .args .s) (start .args .costs .now)
+    (start .args .c) (start .args .cells .now) (start .args .column) _ _ (count .result) (count .ensures) in
     (omega (arith, small .0), omega (arith, small .1))
 
 same-length : tie.Need-same-length
 same-length c = search needs
 
 returns : tie.Need-returns
-returns c = record { answer = c .before .before .before .count .result; packed = c .count-code .ensures; promise = c .before .before .before .count .ensures }
+returns c =
+    let count = c .before .before .before .count in
+    record { answer = count .result; packed = c .count-code .ensures; promise = count .ensures }
 
 pub fernijster-count-spec : {M : Type 1} → statement M
 fernijster-count-spec = tie.close (tie.spec count-requires count-code-requires same-length returns)

@@ -2,10 +2,17 @@
 -- Assumes nothing.
 use native.Mathlib.Omega.{arith}
 use borrow.Author.Needs.{needs}
-use Rattle.answers.specs.Input.{input}
-use Rattle.calls.proofs.CodeLaws.{carried-small, labelled-from}
+use Rattle.answers.specs.Input.{Input, input}
+use Rattle.scorer.specs.Promises.{Labelled}
+use Rattle.calls.proofs.CodeLaws.{carried-small, promise-from}
 use Rattle.calls.proofs.fernijster_label.Statement.{statement}
 use Rattle.calls.proofs.fernijster_label.Tie as tie
+
+-- the table that is given
+abbrev table : tie.Start → Input
+table c =
+    input (c .args .left .now) (c .args .right .now) (c .args .s) (c .args .costs .now) (c .args .c)
+    (c .args .cells .now) (c .args .handed .now)
 
 start-of-requires : tie.Need-start-of-requires
 start-of-requires c κs = search needs
@@ -15,8 +22,10 @@ label-requires c κs = search needs
 
 code-requires : tie.Need-code-requires
 code-requires c κs =
-    let small = carried-small (input (c .before .before .before .before .before .before .before .before .before .before .before .before .before .before .before .args .left .now) (c .before .before .before .before .before .before .before .before .before .before .before .before .before .before .before .args .right .now) (c .before .before .before .before .before .before .before .before .before .before .before .before .before .before .before .args .s) (c .before .before .before .before .before .before .before .before .before .before .before .before .before .before .before .args .costs .now) (c .before .before .before .before .before .before .before .before .before .before .before .before .before .before .before .args .c) (c .before .before .before .before .before .before .before .before .before .before .before .before .before .before .before .args .cells .now) (c .before .before .before .before .before .before .before .before .before .before .before .before .before .before .before .args .handed .now)) _ (c .before .before .before .before .label .result) (c .before .before .before .before .label .ensures .answer) in
-    omega arith
+    let label = c .before .before .before .before .label in
+    let far = c .before .before .before .before .before .before .before .before in
+    let start = far .before .before .before .before .before .before .before in
+    let small = carried-small (table start) _ (label .result) (label .ensures .answer) in omega arith
 
 same-length : tie.Need-same-length
 same-length c = search needs
@@ -25,7 +34,14 @@ same-length-2 : tie.Need-same-length-2
 same-length-2 c = search needs
 
 returns : tie.Need-returns
-returns c = record { answer = c .before .before .before .before .before .label .result; packed = c .code .ensures; promise = labelled-from (c .before .before .before .before .before .before .before .before .start-of .ensures) (c .before .before .before .before .before .label .ensures) }
+returns c =
+    let label = c .before .before .before .before .before .label in
+    let start-of = c .before .before .before .before .before .before .before .before .start-of in
+    record {
+      answer = label .result;
+      packed = c .code .ensures;
+      promise = promise-from Labelled (start-of .ensures) (label .ensures);
+    }
 
 pub fernijster-label-spec : {M : Type 1} → statement M
 fernijster-label-spec =

@@ -2,18 +2,26 @@
 -- Assumes nothing.
 use native.Mathlib.Omega.{arith}
 use borrow.Author.Needs.{needs}
-use Rattle.answers.specs.Input.{input}
+use Rattle.answers.specs.Input.{Input, input}
 use Rattle.calls.proofs.CodeLaws.{carried-small}
 use Rattle.calls.proofs.fernijster_score.Statement.{statement}
 use Rattle.calls.proofs.fernijster_score.Tie as tie
+
+-- the table that is given
+abbrev table : tie.Start → Input
+table c =
+    input (c .args .left .now) (c .args .right .now) (c .args .s) (c .args .costs .now) (c .args .c)
+    (c .args .cells .now) (c .args .handed .now)
 
 score-requires : tie.Need-score-requires
 score-requires c κs = search needs
 
 code-requires : tie.Need-code-requires
 code-requires c κs =
-    let small = carried-small (input (c .before .before .before .before .before .before .before .before .before .before .before .before .before .before .args .left .now) (c .before .before .before .before .before .before .before .before .before .before .before .before .before .before .args .right .now) (c .before .before .before .before .before .before .before .before .before .before .before .before .before .before .args .s) (c .before .before .before .before .before .before .before .before .before .before .before .before .before .before .args .costs .now) (c .before .before .before .before .before .before .before .before .before .before .before .before .before .before .args .c) (c .before .before .before .before .before .before .before .before .before .before .before .before .before .before .args .cells .now) (c .before .before .before .before .before .before .before .before .before .before .before .before .before .before .args .handed .now)) _ (c .before .before .before .before .score .result) (c .before .before .before .before .score .ensures .answer) in
-    omega arith
+    let score = c .before .before .before .before .score in
+    let far = c .before .before .before .before .before .before .before .before in
+    let start = far .before .before .before .before .before .before in
+    let small = carried-small (table start) _ (score .result) (score .ensures .answer) in omega arith
 
 same-length : tie.Need-same-length
 same-length c = search needs
@@ -22,7 +30,9 @@ same-length-2 : tie.Need-same-length-2
 same-length-2 c = search needs
 
 returns : tie.Need-returns
-returns c = record { answer = c .before .before .before .before .before .score .result; packed = c .code .ensures; promise = c .before .before .before .before .before .score .ensures }
+returns c =
+    let score = c .before .before .before .before .before .score in
+    record { answer = score .result; packed = c .code .ensures; promise = score .ensures }
 
 pub fernijster-score-spec : {M : Type 1} → statement M
 fernijster-score-spec =

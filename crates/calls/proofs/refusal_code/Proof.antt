@@ -19,12 +19,16 @@ enum-known-refusal c = search needs
 
 mul-result : tie.Need-mul-result
 mul-result c =
-    let small = subst (λ (r : Refusal). carriedBy (Refused r) < 72057594037927936) (c .before .refusal .given .1) (c .before .before .before .pre) in
+    let start = c .before .before .before in
+    let small =
+    subst (λ (r : Refusal). carriedBy (Refused r) < 72057594037927936) (c .before .refusal .given .1) (start .pre) in
     omega arith
 
 add-result : tie.Need-add-result
 add-result c =
-    let small = subst (λ (r : Refusal). carriedBy (Refused r) < 72057594037927936) (c .before .refusal .given .1) (c .before .before .before .pre) in
+    let start = c .before .before .before in
+    let small =
+    subst (λ (r : Refusal). carriedBy (Refused r) < 72057594037927936) (c .before .refusal .given .1) (start .pre) in
     omega arith
 
 enum-told-2 : tie.Need-enum-told-2

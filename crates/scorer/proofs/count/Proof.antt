@@ -17,15 +17,23 @@ enum-known-answer : tie.Need-enum-known-answer
 enum-known-answer c = search needs
 
 returns : tie.Need-returns
-returns c = record { answer = given-same (c .before .before .before .count-tests .ensures) (c .before .answer .given .1); lists = refl }
+returns c =
+    let count-tests = c .before .before .before .count-tests in
+    record { answer = given-same (count-tests .ensures) (c .before .answer .given .1); lists = refl }
 
 enum-told : tie.Need-enum-told
 enum-told c = search needs
 
 fill-prelims-requires : tie.Need-fill-prelims-requires
 fill-prelims-requires c κs =
-    let r = done-all _ _ _ _ (c .before .before .before .count-tests .ensures) (c .before .enum-told .given .1) in (
-      (count-legal (c .before .before .before .before .before .before .before .before .before .args .left .now) (c .before .before .before .before .before .before .before .before .before .args .right .now) (c .before .before .before .before .before .before .before .before .before .args .s) (c .before .before .before .before .before .before .before .before .before .args .costs .now) (c .before .before .before .before .before .before .before .before .before .args .c) (c .before .before .before .before .before .before .before .before .before .args .cells .now) (c .before .before .before .before .before .before .before .before .before .args .j) (length (c .before .before .before .before .before .before .before .before .before .args .sets .now)) r, r .1 .1 .1 .1 .1 .1 .0 .1),
+    let count-tests = c .before .before .before .count-tests in
+    let start = c .before .before .before .before .before .before .before .before .before in
+    let r = done-all _ _ _ _ (count-tests .ensures) (c .before .enum-told .given .1) in (
+      (
+        count-legal (start .args .left .now) (start .args .right .now) (start .args .s) (start .args .costs .now)
+            (start .args .c) (start .args .cells .now) (start .args .j) (length (start .args .sets .now)) r,
+        r .1 .1 .1 .1 .1 .1 .0 .1,
+      ),
       ((r .1 .1 .1 .0 .count, omega (arith, r .1 .1 .1 .1 .1 .0), r .1 .1 .1 .0 .columns), r .1 .1 .1 .1 .1 .1 .1 .0),
     )
 
@@ -34,10 +42,15 @@ same-length c = c .before .before .fill-prelims .ensures .sets .long
 
 returns-2 : tie.Need-returns-2
 returns-2 c =
-    let r = done-all _ _ _ _ (c .before .before .before .before .before .before .count-tests .ensures) (c .before .before .before .before .enum-told .given .1) in
+    let enum-told = c .before .before .before .before .enum-told in
+    let count-tests = c .before .before .before .before .before .before .count-tests in
+    let start = c .before .before .before .before .before .before .before .before .before .before .before .before in
+    let r = done-all _ _ _ _ (count-tests .ensures) (enum-told .given .1) in
     record {
-      answer = given-same (c .before .before .before .before .before .before .count-tests .ensures) (c .before .before .before .before .enum-told .given .1);
-      lists = count-right (c .before .before .before .before .before .before .before .before .before .before .before .before .args .left .now) (c .before .before .before .before .before .before .before .before .before .before .before .before .args .right .now) (c .before .before .before .before .before .before .before .before .before .before .before .before .args .s) (c .before .before .before .before .before .before .before .before .before .before .before .before .args .costs .now) (c .before .before .before .before .before .before .before .before .before .before .before .before .args .c) (c .before .before .before .before .before .before .before .before .before .before .before .before .args .cells .now) (c .before .before .before .before .before .before .before .before .before .before .before .before .args .j) (length (c .before .before .before .before .before .before .before .before .before .before .before .before .args .sets .now)) _ _ _ r (c .before .before .fill-prelims .ensures);
+      answer = given-same (count-tests .ensures) (enum-told .given .1);
+      lists = count-right (start .args .left .now) (start .args .right .now) (start .args .s)
+          (start .args .costs .now) (start .args .c) (start .args .cells .now) (start .args .j)
+          (length (start .args .sets .now)) _ _ _ r (c .before .before .fill-prelims .ensures);
     }
 
 pub count-spec : {M : Type 1} → statement M

@@ -14,13 +14,17 @@ enum-known-answer : tie.Need-enum-known-answer
 enum-known-answer c = search needs
 
 returns : tie.Need-returns
-returns c = record { answer = given-same (c .before .before .before .label-tests .ensures) (c .before .answer .given .1); lists = (refl, refl) }
+returns c =
+    let label-tests = c .before .before .before .label-tests in
+    record { answer = given-same (label-tests .ensures) (c .before .answer .given .1); lists = (refl, refl) }
 
 enum-told : tie.Need-enum-told
 enum-told c = search needs
 
 label-column-requires : tie.Need-label-column-requires
-label-column-requires c κs = done-all _ _ _ _ (c .before .before .before .before .label-tests .ensures) (c .before .before .enum-told .given .1)
+label-column-requires c κs =
+    let label-tests = c .before .before .before .before .label-tests in
+    done-all _ _ _ _ (label-tests .ensures) (c .before .before .enum-told .given .1)
 
 same-length : tie.Need-same-length
 same-length c = search needs
@@ -29,7 +33,11 @@ same-length-2 : tie.Need-same-length-2
 same-length-2 c = search needs
 
 returns-2 : tie.Need-returns-2
-returns-2 c = record { answer = given-same (c .before .before .before .before .before .before .before .before .before .label-tests .ensures) (c .before .before .before .before .before .before .before .enum-told .given .1); lists = c .before .before .before .before .label-column .ensures }
+returns-2 c =
+    let label-column = c .before .before .before .before .label-column in
+    let enum-told = c .before .before .before .before .before .before .before .enum-told in
+    let label-tests = c .before .before .before .before .before .before .before .before .before .label-tests in
+    record { answer = given-same (label-tests .ensures) (enum-told .given .1); lists = label-column .ensures }
 
 pub label-spec : {M : Type 1} → statement M
 label-spec =

@@ -18,13 +18,23 @@ enum-known-start : tie.Need-enum-known-start
 enum-known-start c = search needs
 
 narrow-requires : tie.Need-narrow-requires
-narrow-requires c κs = subst (λ t. stateOf t 0 < 65536) (c .before .start .given .1) (c .before .before .before .before .pre .1)
+narrow-requires c κs =
+    let start = c .before .before .before .before in
+    subst (λ t. stateOf t 0 < 65536) (c .before .start .given .1) (start .pre .1)
 
 returns : tie.Need-returns
-returns c = c .least-set .ensures ∙ ap (λ t. stateOf t (leastSet (c .before .before .before .before .args .rows .now) (c .before .before .before .before .args .at) (c .before .before .before .before .args .s) (c .before .before .before .before .args .s))) (sym (c .before .enum-told .given .1))
+returns c =
+    let start = c .before .before .before .before in
+    c .least-set .ensures
+    ∙ ap (λ t. stateOf t (leastSet (start .args .rows .now) (start .args .at) (start .args .s) (start .args .s)))
+    (sym (c .before .enum-told .given .1))
 
 returns-2 : tie.Need-returns-2
-returns-2 c = c .narrow .ensures ∙ ap (λ t. stateOf t (leastSet (c .before .before .before .before .before .args .rows .now) (c .before .before .before .before .before .args .at) (c .before .before .before .before .before .args .s) (c .before .before .before .before .before .args .s))) (sym (c .before .before .start .given .1))
+returns-2 c =
+    let start = c .before .before .before .before .before in
+    c .narrow .ensures
+    ∙ ap (λ t. stateOf t (leastSet (start .args .rows .now) (start .args .at) (start .args .s) (start .args .s)))
+    (sym (c .before .before .start .given .1))
 
 pub root-set-spec : {M : Type 1} → statement M
 root-set-spec =

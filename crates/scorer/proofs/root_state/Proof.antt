@@ -18,10 +18,17 @@ enum-known-start : tie.Need-enum-known-start
 enum-known-start c = search needs
 
 returns : tie.Need-returns
-returns c = c .lowest-least .ensures ∙ ap (λ t. stateOf t (low (entryAt (c .before .before .before .before .args .rows .now) (c .before .before .before .before .args .at)) (c .before .before .before .before .args .s))) (sym (c .before .enum-told .given .1))
+returns c =
+    let start = c .before .before .before .before in
+    c .lowest-least .ensures
+    ∙ ap (λ t. stateOf t (low (entryAt (start .args .rows .now) (start .args .at)) (start .args .s)))
+    (sym (c .before .enum-told .given .1))
 
 returns-2 : tie.Need-returns-2
-returns-2 c = ap (λ t. stateOf t (low (entryAt (c .before .before .before .before .args .rows .now) (c .before .before .before .before .args .at)) (c .before .before .before .before .args .s))) (sym (c .before .start .given .1))
+returns-2 c =
+    let start = c .before .before .before .before in
+    ap (λ t. stateOf t (low (entryAt (start .args .rows .now) (start .args .at)) (start .args .s)))
+    (sym (c .before .start .given .1))
 
 pub root-state-spec : {M : Type 1} → statement M
 root-state-spec =

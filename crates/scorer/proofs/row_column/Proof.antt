@@ -4,7 +4,7 @@ use mathlib.Core.Path.{subst}
 use native.Mathlib.Omega.{arith}
 use lib.ListN.{length}
 use Rattle.answers.proofs.RootLaws.{rules-node}
-use Rattle.answers.specs.Input.{input, nodes}
+use Rattle.answers.specs.Input.{Input, input, nodes}
 use Rattle.scorer.proofs.LinkLaws.{rules-ready}
 use Rattle.scorer.proofs.ResultLaws.{row-right}
 use Rattle.scorer.proofs.RuleParts.{hand-up-parts, root-inside}
@@ -13,32 +13,51 @@ use Rattle.steps.specs.Lane.{entryAt}
 use Rattle.steps.specs.Wrote.{Wrote}
 use Rattle.scorer.proofs.row_column.Tie as tie
 
+-- the table that is given
+abbrev table : tie.Start → Input
+table c =
+    input (c .args .left .now) (c .args .right .now) (c .args .s) (c .args .costs .now) (c .args .c)
+    (c .args .cells .now) (c .args .handed .now)
+
 tips-of-requires : tie.Need-tips-of-requires
 tips-of-requires c κs = c .before .before .before .before .before .before .before .pre .0
 
 fill-rows-requires : tie.Need-fill-rows-requires
 fill-rows-requires c κs =
-    let I = (input (c .before .before .before .before .before .before .before .before .before .args .left .now) (c .before .before .before .before .before .before .before .before .before .args .right .now) (c .before .before .before .before .before .before .before .before .before .args .s) (c .before .before .before .before .before .before .before .before .before .args .costs .now) (c .before .before .before .before .before .before .before .before .before .args .c) (c .before .before .before .before .before .before .before .before .before .args .cells .now) (c .before .before .before .before .before .before .before .before .before .args .handed .now)) in
-    let parts = hand-up-parts I (c .before .before .before .before .before .before .before .before .before .args .j) (length (c .before .before .before .before .before .before .before .before .before .args .row .now)) (length (c .before .before .before .before .before .before .before .before .before .args .rows .now)) (c .before .before .before .before .before .before .before .before .before .pre) in
+    let start = c .before .before .before .before .before .before .before .before .before in
+    let I = table start in
+    let parts =
+    hand-up-parts I (start .args .j) (length (start .args .row .now)) (length (start .args .rows .now))
+    (start .pre) in
     let t = parts .table in
-    (rules-ready I t (c .before .before .before .before .before .before .before .before .before .args .j) (parts .which), (c .before .tips-of .ensures, parts .room .1))
+    (rules-ready I t (start .args .j) (parts .which), (c .before .tips-of .ensures, parts .room .1))
 
 root-place-requires : tie.Need-root-place-requires
 root-place-requires c κs =
-    let I = (input (c .before .before .before .before .before .before .before .before .before .before .before .before .before .args .left .now) (c .before .before .before .before .before .before .before .before .before .before .before .before .before .args .right .now) (c .before .before .before .before .before .before .before .before .before .before .before .before .before .args .s) (c .before .before .before .before .before .before .before .before .before .before .before .before .before .args .costs .now) (c .before .before .before .before .before .before .before .before .before .before .before .before .before .args .c) (c .before .before .before .before .before .before .before .before .before .before .before .before .before .args .cells .now) (c .before .before .before .before .before .before .before .before .before .before .before .before .before .args .handed .now)) in
-    let parts = hand-up-parts I (c .before .before .before .before .before .before .before .before .before .before .before .before .before .args .j) (length (c .before .before .before .before .before .before .before .before .before .before .before .before .before .args .row .now)) (length (c .before .before .before .before .before .before .before .before .before .before .before .before .before .args .rows .now)) (c .before .before .before .before .before .before .before .before .before .before .before .before .before .pre) in
-    let t = parts .table in
-    (omega (arith, rules-node I t), omega (arith, t .0 .most), t .1 .1 .0 .most)
+    let far = c .before .before .before .before .before .before .before .before in
+    let start = far .before .before .before .before .before in
+    let I = table start in
+    let parts =
+    hand-up-parts I (start .args .j) (length (start .args .row .now)) (length (start .args .rows .now))
+    (start .pre) in
+    let t = parts .table in (omega (arith, rules-node I t), omega (arith, t .0 .most), t .1 .1 .0 .most)
 
 copy-row-requires : tie.Need-copy-row-requires
 copy-row-requires c κs =
-    let I = (input (c .before .before .before .before .before .before .before .before .before .before .before .before .before .before .before .args .left .now) (c .before .before .before .before .before .before .before .before .before .before .before .before .before .before .before .args .right .now) (c .before .before .before .before .before .before .before .before .before .before .before .before .before .before .before .args .s) (c .before .before .before .before .before .before .before .before .before .before .before .before .before .before .before .args .costs .now) (c .before .before .before .before .before .before .before .before .before .before .before .before .before .before .before .args .c) (c .before .before .before .before .before .before .before .before .before .before .before .before .before .before .before .args .cells .now) (c .before .before .before .before .before .before .before .before .before .before .before .before .before .before .before .args .handed .now)) in
-    let parts = hand-up-parts I (c .before .before .before .before .before .before .before .before .before .before .before .before .before .before .before .args .j) (length (c .before .before .before .before .before .before .before .before .before .before .before .before .before .before .before .args .row .now)) (length (c .before .before .before .before .before .before .before .before .before .before .before .before .before .before .before .args .rows .now)) (c .before .before .before .before .before .before .before .before .before .before .before .before .before .before .before .pre) in
+    let fill-rows = c .before .before .before .before .before .fill-rows in
+    let far = c .before .before .before .before .before .before .before .before in
+    let start = far .before .before .before .before .before .before .before in
+    let fill-rows-out = fill-rows .last .1 .1 .1 .1 .1 .1 .1 .1 .1 .0 in
+    let I = table start in
+    let parts =
+    hand-up-parts I (start .args .j) (length (start .args .row .now)) (length (start .args .rows .now))
+    (start .pre) in
     let t = parts .table in
-    let long = c .before .before .before .before .before .fill-rows .ensures .long in
+    let long = fill-rows .ensures .long in
     let room = parts .room .1 in
     let output = parts .room .0 in (
-      root-inside (nodes I) (I .s) (length (c .before .before .before .before .before .fill-rows .last .1 .1 .1 .1 .1 .1 .1 .1 .1 .0)) _ (rules-node I t) (omega arith) (c .before .root-place .ensures),
+      root-inside (nodes I) (I .s) (length fill-rows-out) _ (rules-node I t) (omega arith)
+          (omega (arith, c .before .root-place .ensures)),
       omega arith,
     )
 
@@ -50,14 +69,23 @@ same-length-2 c = c .before .before .before .before .before .before .before .bef
 
 returns : tie.Need-returns
 returns c =
-    let I = (input (c .before .before .before .before .before .before .before .before .before .before .before .before .before .before .before .before .before .before .args .left .now) (c .before .before .before .before .before .before .before .before .before .before .before .before .before .before .before .before .before .before .args .right .now) (c .before .before .before .before .before .before .before .before .before .before .before .before .before .before .before .before .before .before .args .s) (c .before .before .before .before .before .before .before .before .before .before .before .before .before .before .before .before .before .before .args .costs .now) (c .before .before .before .before .before .before .before .before .before .before .before .before .before .before .before .before .before .before .args .c) (c .before .before .before .before .before .before .before .before .before .before .before .before .before .before .before .before .before .before .args .cells .now) (c .before .before .before .before .before .before .before .before .before .before .before .before .before .before .before .before .before .before .args .handed .now)) in
-    let parts = hand-up-parts I (c .before .before .before .before .before .before .before .before .before .before .before .before .before .before .before .before .before .before .args .j) (length (c .before .before .before .before .before .before .before .before .before .before .before .before .before .before .before .before .before .before .args .row .now)) (length (c .before .before .before .before .before .before .before .before .before .before .before .before .before .before .before .before .before .before .args .rows .now)) (c .before .before .before .before .before .before .before .before .before .before .before .before .before .before .before .before .before .before .pre) in
+    let copy-row = c .before .before .copy-row in
+    let root-place = c .before .before .before .before .root-place in
+    let fill-rows = c .before .before .before .before .before .before .before .before .fill-rows in
+    let far = c .before .before .before .before .before .before .before .before in
+    let start = far .before .before .before .before .before .before .before .before .before .before in
+    let fill-rows-out = fill-rows .last .1 .1 .1 .1 .1 .1 .1 .1 .1 .0 in
+    let I = table start in
+    let parts =
+    hand-up-parts I (start .args .j) (length (start .args .row .now)) (length (start .args .rows .now))
+    (start .pre) in
     let t = parts .table in
-    let written = c .before .before .copy-row .ensures in
+    let written = copy-row .ensures in
     record {
-      each = row-right I t (c .before .before .before .before .before .before .before .before .before .before .before .before .before .before .before .before .before .before .args .j) (parts .which) (c .before .before .before .before .before .before .before .before .fill-rows .last .1 .1 .1 .1 .1 .1 .1 .1 .1 .0) (c .before .before .before .before .before .before .before .before .fill-rows .ensures .holds) _ _
-          (subst (λ at. Wrote 0 (I .s) (entryAt (c .before .before .before .before .before .before .before .before .fill-rows .last .1 .1 .1 .1 .1 .1 .1 .1 .1 .0) at) (c .before .before .before .before .before .before .before .before .before .before .before .before .before .before .before .before .before .before .args .row .now) (c .before .before .copy-row .last .1 .1 .0)) (c .before .before .before .before .root-place .ensures) written);
-      worked = c .before .before .before .before .before .before .before .before .fill-rows .ensures;
+      each = row-right I t (start .args .j) (parts .which) fill-rows-out (fill-rows .ensures .holds) _ _
+          (subst (λ at. Wrote 0 (I .s) (entryAt fill-rows-out at) (start .args .row .now) (copy-row .last .1 .1 .0))
+          (root-place .ensures) written);
+      worked = fill-rows .ensures;
     }
 
 pub row-column-spec : {M : Type 1} → statement M

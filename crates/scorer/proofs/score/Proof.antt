@@ -14,13 +14,17 @@ enum-known-answer : tie.Need-enum-known-answer
 enum-known-answer c = search needs
 
 returns : tie.Need-returns
-returns c = record { answer = given-same (c .before .before .before .score-tests .ensures) (c .before .answer .given .1); lists = (refl, refl) }
+returns c =
+    let score-tests = c .before .before .before .score-tests in
+    record { answer = given-same (score-tests .ensures) (c .before .answer .given .1); lists = (refl, refl) }
 
 enum-told : tie.Need-enum-told
 enum-told c = search needs
 
 score-columns-requires : tie.Need-score-columns-requires
-score-columns-requires c κs = done-all _ _ _ _ (c .before .before .before .before .score-tests .ensures) (c .before .before .enum-told .given .1)
+score-columns-requires c κs =
+    let score-tests = c .before .before .before .before .score-tests in
+    done-all _ _ _ _ (score-tests .ensures) (c .before .before .enum-told .given .1)
 
 same-length : tie.Need-same-length
 same-length c = search needs
@@ -29,7 +33,11 @@ same-length-2 : tie.Need-same-length-2
 same-length-2 c = search needs
 
 returns-2 : tie.Need-returns-2
-returns-2 c = record { answer = given-same (c .before .before .before .before .before .before .before .before .before .score-tests .ensures) (c .before .before .before .before .before .before .before .enum-told .given .1); lists = c .before .before .before .before .score-columns .ensures }
+returns-2 c =
+    let score-columns = c .before .before .before .before .score-columns in
+    let enum-told = c .before .before .before .before .before .before .before .enum-told in
+    let score-tests = c .before .before .before .before .before .before .before .before .before .score-tests in
+    record { answer = given-same (score-tests .ensures) (enum-told .given .1); lists = score-columns .ensures }
 
 pub score-spec : {M : Type 1} → statement M
 score-spec =

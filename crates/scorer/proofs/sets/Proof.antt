@@ -14,13 +14,17 @@ enum-known-answer : tie.Need-enum-known-answer
 enum-known-answer c = search needs
 
 returns : tie.Need-returns
-returns c = record { answer = given-same (c .before .before .before .sets-tests .ensures) (c .before .answer .given .1); lists = (refl, refl) }
+returns c =
+    let sets-tests = c .before .before .before .sets-tests in
+    record { answer = given-same (sets-tests .ensures) (c .before .answer .given .1); lists = (refl, refl) }
 
 enum-told : tie.Need-enum-told
 enum-told c = search needs
 
 set-column-requires : tie.Need-set-column-requires
-set-column-requires c κs = done-all _ _ _ _ (c .before .before .before .before .sets-tests .ensures) (c .before .before .enum-told .given .1)
+set-column-requires c κs =
+    let sets-tests = c .before .before .before .before .sets-tests in
+    done-all _ _ _ _ (sets-tests .ensures) (c .before .before .enum-told .given .1)
 
 same-length : tie.Need-same-length
 same-length c = search needs
@@ -29,7 +33,11 @@ same-length-2 : tie.Need-same-length-2
 same-length-2 c = search needs
 
 returns-2 : tie.Need-returns-2
-returns-2 c = record { answer = given-same (c .before .before .before .before .before .before .before .before .before .sets-tests .ensures) (c .before .before .before .before .before .before .before .enum-told .given .1); lists = c .before .before .before .before .set-column .ensures }
+returns-2 c =
+    let set-column = c .before .before .before .before .set-column in
+    let enum-told = c .before .before .before .before .before .before .before .enum-told in
+    let sets-tests = c .before .before .before .before .before .before .before .before .before .sets-tests in
+    record { answer = given-same (sets-tests .ensures) (enum-told .given .1); lists = set-column .ensures }
 
 pub sets-spec : {M : Type 1} → statement M
 sets-spec =

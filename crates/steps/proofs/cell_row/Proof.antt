@@ -19,7 +19,9 @@ abbrev μ-loop : tie.MeasureT-loop
 μ-loop cell rows₀ at s x₀ rows x = s - x
 
 loop-holds : tie.Need-loop-holds Inv-loop μ-loop
-loop-holds c = (omega arith, wrote-none (c .before .args .at) (cellEntry (c .before .args .cell)) (c .before .args .rows .now))
+loop-holds c =
+    let start = c .before in
+    (omega arith, wrote-none (start .args .at) (cellEntry (start .args .cell)) (start .args .rows .now))
 
 has-requires : tie.Need-has-requires Inv-loop μ-loop
 has-requires c κs = search needs
@@ -50,16 +52,20 @@ loop-less c = search needs
 
 loop-again : tie.Need-loop-again Inv-loop μ-loop
 loop-again c =
+    let turn = c .before .before .before .loop in
     let start = c .before .before .before .before .before in
-    let x = c .before .before .before .loop .x in
-    let inv = c .before .before .before .loop .inv in
+    let x = turn .x in
+    let inv = turn .inv in
     let long = inv .1 .long in (
       omega arith,
       ⊎-elim
-          (λ w. subst (Wrote (start .args .at) (x + 1) (cellEntry (start .args .cell)) (start .args .rows .now)) (sym (w .1))
+          (λ w. subst (Wrote (start .args .at) (x + 1) (cellEntry (start .args .cell)) (start .args .rows .now))
+          (sym (w .1))
           (wrote-more _ _ _ _ _ _ (inv .1) (omega arith) (cell-yes _ x _ (c .before .has .ensures) (w .0 .taken))))
-          (λ w. subst (Wrote (start .args .at) (x + 1) (cellEntry (start .args .cell)) (start .args .rows .now)) (sym (w .1))
-          (wrote-more _ _ _ _ _ _ (inv .1) (omega arith) (cell-no _ x _ (c .before .has .ensures) (w .0 .left)))) (c .if1 .came),
+          (λ w. subst (Wrote (start .args .at) (x + 1) (cellEntry (start .args .cell)) (start .args .rows .now))
+          (sym (w .1))
+          (wrote-more _ _ _ _ _ _ (inv .1) (omega arith) (cell-no _ x _ (c .before .has .ensures) (w .0 .left))))
+          (c .if1 .came),
     )
 
 same-length : tie.Need-same-length Inv-loop μ-loop
@@ -67,9 +73,12 @@ same-length c = search needs
 
 returns : tie.Need-returns Inv-loop μ-loop
 returns c =
-    let inv = c .before .loop .inv in
-    let done : c .before .loop .x ≡ c .before .before .before .args .s = omega arith in
-    subst (λ z. Wrote (c .before .before .before .args .at) z (cellEntry (c .before .before .before .args .cell)) (c .before .before .before .args .rows .now) (c .before .loop .rows)) done (inv .1)
+    let turn = c .before .loop in
+    let start = c .before .before .before in
+    let inv = turn .inv in
+    let done : turn .x ≡ start .args .s = omega arith in
+    subst (λ z. Wrote (start .args .at) z (cellEntry (start .args .cell)) (start .args .rows .now) (turn .rows))
+    done (inv .1)
 
 pub cell-row-spec : {M : Type 1} → statement M
 cell-row-spec =

@@ -1,5 +1,6 @@
--- `child_set` meets its contract. The loop's invariant: the set has the states that reach the least under a parent's state
--- below x, and from is the place of row x of the costs. The measure is what is left of the states. Assumes nothing.
+-- `child_set` meets its contract. The loop's invariant: the set has the states that reach the least under a parent's
+-- state below x, and from is the place of row x of the costs. The measure is what is left of the states. Assumes
+-- nothing.
 use mathlib.Core.Logic.{⊎-elim}
 use mathlib.Core.Path.{_≡_, sym, ap, ap₂, _∙_, subst}
 use Prim.Native.Nat.{suc, _+_, _-_, _*_, _≤_}
@@ -16,22 +17,31 @@ use Rattle.steps.specs.Lane.{Cheap, joined, reached}
 use Rattle.steps.proofs.child_set.Tie as tie
 
 abbrev Inv-loop : tie.InvT-loop
-Inv-loop costs rows at s parent set₀ x₀ from₀ set x from = (x ≤ s) × (from ≡ x * s) × (set .0 ≡ joined costs rows at s parent x)
+Inv-loop costs rows at s parent set₀ x₀ from₀ set x from =
+    (x ≤ s) × (from ≡ x * s) × (set .0 ≡ joined costs rows at s parent x)
 
 abbrev μ-loop : tie.MeasureT-loop
 μ-loop costs rows at s parent set₀ x₀ from₀ set x from = s - x
 
 loop-holds : tie.Need-loop-holds Inv-loop μ-loop
-loop-holds c = (omega arith, sym (zero-mul (c .before .before .args .s)), joined-none (c .before .before .args .costs .now) (c .before .before .args .rows .now) (c .before .before .args .at) (c .before .before .args .s) (c .before .before .args .parent))
+loop-holds c =
+    let start = c .before .before in (
+      omega arith,
+      sym (zero-mul (start .args .s)),
+      joined-none (start .args .costs .now) (start .args .rows .now) (start .args .at) (start .args .s)
+          (start .args .parent),
+    )
 
 has-requires : tie.Need-has-requires Inv-loop μ-loop
 has-requires c κs = search needs
 
 reach-set-requires : tie.Need-reach-set-requires Inv-loop μ-loop
 reach-set-requires c κs =
+    let turn = c .before .before .before .loop in
     let start = c .before .before .before .before .before .before in
-    let inv = c .before .before .before .loop .inv in
-    let cheap = cheap-row _ _ (c .before .before .before .loop .x) (start .pre .0 .0) (start .pre .0 .1) (c .before .before .loop-test .taken) in
+    let inv = turn .inv in
+    let cheap =
+    cheap-row _ _ (turn .x) (start .pre .0 .0) (start .pre .0 .1) (c .before .before .loop-test .taken) in
     (subst (λ k. Cheap (start .args .costs .now) k (start .args .s)) (sym (inv .1)) cheap, start .pre .1)
 
 union-requires : tie.Need-union-requires Inv-loop μ-loop
@@ -42,10 +52,11 @@ add-x c = search needs
 
 add-from : tie.Need-add-from Inv-loop μ-loop
 add-from c =
+    let turn = c .before .before .before .loop in
     let start = c .before .before .before .before .before .before in
-    let inv = c .before .before .before .loop .inv in
+    let inv = turn .inv in
     let cheap =
-    cheap-row (start .args .costs .now) (start .args .s) (c .before .before .before .loop .x) (start .pre .0 .0) (start .pre .0 .1)
+    cheap-row (start .args .costs .now) (start .args .s) (turn .x) (start .pre .0 .0) (start .pre .0 .1)
     (c .before .before .loop-test .taken) in
     omega (arith, cheap .inside, inv .1, start .good)
 
@@ -54,9 +65,10 @@ loop-less c = search needs
 
 loop-again : tie.Need-loop-again Inv-loop μ-loop
 loop-again c =
+    let turn = c .before .before .before .loop in
     let start = c .before .before .before .before .before .before in
-    let x = c .before .before .before .loop .x in
-    let inv = c .before .before .before .loop .inv in
+    let x = turn .x in
+    let inv = turn .inv in
     let step = suc-mul x (start .args .s) in
     let next : (x + 1) * start .args .s ≡ suc x * start .args .s = ap (λ k. k * start .args .s) (add-one x) in (
       omega arith,
@@ -64,18 +76,30 @@ loop-again c =
       ⊎-elim
           (λ w. ap (λ (r : States). r .0) (w .3)
           ∙ w .2 .ensures
-          ∙ ap₂ union (inv .2) (w .1 .ensures
-          ∙ ap (λ k. reached (start .args .costs .now) k (start .args .rows .now) (start .args .at) (start .args .s) (start .args .s)) (inv .1))
-          ∙ joined-more (c .before .before .before .before .before .before .args .costs .now) (c .before .before .before .before .before .before .args .rows .now) (c .before .before .before .before .before .before .args .at) (c .before .before .before .before .before .before .args .s) (c .before .before .before .before .before .before .args .parent) x _ (c .before .has .ensures) (w .0 .taken))
-          (λ w. ap (λ (r : States). r .0) (w .1) ∙ inv .2 ∙ joined-other (c .before .before .before .before .before .before .args .costs .now) (c .before .before .before .before .before .before .args .rows .now) (c .before .before .before .before .before .before .args .at) (c .before .before .before .before .before .before .args .s) (c .before .before .before .before .before .before .args .parent) x _ (c .before .has .ensures) (w .0 .left))
+          ∙ ap₂ union (inv .2)
+          (w .1 .ensures
+          ∙ ap
+          (λ k. reached (start .args .costs .now) k (start .args .rows .now) (start .args .at) (start .args .s)
+          (start .args .s))
+          (inv .1))
+          ∙ joined-more (start .args .costs .now) (start .args .rows .now) (start .args .at) (start .args .s)
+          (start .args .parent) x _ (c .before .has .ensures) (w .0 .taken))
+          (λ w. ap (λ (r : States). r .0) (w .1)
+          ∙ inv .2
+          ∙ joined-other (start .args .costs .now) (start .args .rows .now) (start .args .at) (start .args .s)
+          (start .args .parent) x _ (c .before .has .ensures) (w .0 .left))
           (c .if1 .came),
     )
 
 returns : tie.Need-returns Inv-loop μ-loop
 returns c =
+    let start = c .before .before .before .before in
     let inv = c .before .loop .inv in
-    let done : c .before .loop .x ≡ c .before .before .before .before .args .s = omega arith in
-    inv .2 ∙ ap (joined (c .before .before .before .before .args .costs .now) (c .before .before .before .before .args .rows .now) (c .before .before .before .before .args .at) (c .before .before .before .before .args .s) (c .before .before .before .before .args .parent)) done
+    let done : c .before .loop .x ≡ start .args .s = omega arith in
+    inv .2
+    ∙ ap
+    (joined (start .args .costs .now) (start .args .rows .now) (start .args .at) (start .args .s) (start .args .parent))
+    done
 
 pub child-set-spec : {M : Type 1} → statement M
 child-set-spec =

@@ -1,5 +1,5 @@
--- `choose` meets its contract. The loop's invariant: of the states below y the lowest is the lowest least, and best is its
--- sum. The measure is what is left of the states. Assumes nothing.
+-- `choose` meets its contract. The loop's invariant: of the states below y the lowest is the lowest least, and best is
+-- its sum. The measure is what is left of the states. Assumes nothing.
 use mathlib.Core.Logic.{⊎-elim}
 use mathlib.Core.Path.{_≡_, sym, ap, _∙_}
 use Prim.Native.Nat.{ℕ, _-_, _≤_, _<_}
@@ -12,7 +12,12 @@ use Rattle.steps.specs.Lane.{lane}
 use Rattle.steps.proofs.choose.Tie as tie
 
 abbrev Inv-loop : tie.InvT-loop
-Inv-loop costs from rows at s best₀ lowest₀ y₀ best lowest y = (1 ≤ y) × (y ≤ s) × (lowest < y) × (best ≡ lane costs from rows at lowest) × Looked (lane costs from rows at) y lowest
+Inv-loop costs from rows at s best₀ lowest₀ y₀ best lowest y =
+    (1 ≤ y)
+    × (y ≤ s)
+    × (lowest < y)
+    × (best ≡ lane costs from rows at lowest)
+    × Looked (lane costs from rows at) y lowest
 
 abbrev μ-loop : tie.MeasureT-loop
 μ-loop costs from rows at s best₀ lowest₀ y₀ best lowest y = s - y
@@ -21,7 +26,14 @@ through-requires : tie.Need-through-requires Inv-loop μ-loop
 through-requires c κs = search needs
 
 loop-holds : tie.Need-loop-holds Inv-loop μ-loop
-loop-holds c = (omega arith, omega arith, omega arith, c .through .ensures, looked-one (lane (c .before .before .before .args .costs .now) (c .before .before .before .args .from) (c .before .before .before .args .rows .now) (c .before .before .before .args .at)))
+loop-holds c =
+    let start = c .before .before .before in (
+      omega arith,
+      omega arith,
+      omega arith,
+      c .through .ensures,
+      looked-one (lane (start .args .costs .now) (start .args .from) (start .args .rows .now) (start .args .at)),
+    )
 
 through-requires-2 : tie.Need-through-requires-2 Inv-loop μ-loop
 through-requires-2 c κs = search needs
@@ -34,9 +46,11 @@ loop-less c = search needs
 
 loop-again : tie.Need-loop-again Inv-loop μ-loop
 loop-again c =
-    let f : ℕ → ℕ = lane (c .before .before .before .before .before .before .before .args .costs .now) (c .before .before .before .before .before .before .before .args .from) (c .before .before .before .before .before .before .before .args .rows .now) (c .before .before .before .before .before .before .before .args .at) in
-    let y = c .before .before .before .loop .y in
-    let inv = c .before .before .before .loop .inv in
+    let turn = c .before .before .before .loop in
+    let start = c .before .before .before .before .before .before .before in
+    let f : ℕ → ℕ = lane (start .args .costs .now) (start .args .from) (start .args .rows .now) (start .args .at) in
+    let y = turn .y in
+    let inv = turn .inv in
     let here = c .before .through2 .ensures in
     ⊎-elim
     (λ w. (
@@ -57,9 +71,11 @@ loop-again c =
 
 returns : tie.Need-returns Inv-loop μ-loop
 returns c =
+    let start = c .before .before .before .before .before in
     let inv = c .before .loop .inv in
-    let done : c .before .loop .y ≡ c .before .before .before .before .before .args .s = omega arith in
-    sym (inv .4) ∙ ap (low (lane (c .before .before .before .before .before .args .costs .now) (c .before .before .before .before .before .args .from) (c .before .before .before .before .before .args .rows .now) (c .before .before .before .before .before .args .at))) done
+    let done : c .before .loop .y ≡ start .args .s = omega arith in
+    sym (inv .4)
+    ∙ ap (low (lane (start .args .costs .now) (start .args .from) (start .args .rows .now) (start .args .at))) done
 
 pub choose-spec : {M : Type 1} → statement M
 choose-spec =

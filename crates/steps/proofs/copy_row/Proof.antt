@@ -17,7 +17,8 @@ abbrev μ-loop : tie.MeasureT-loop
 μ-loop source from rows₀ at s x₀ rows x = s - x
 
 loop-holds : tie.Need-loop-holds Inv-loop μ-loop
-loop-holds c = (omega arith, wrote-none (c .args .at) (entryAt (c .args .source .now) (c .args .from)) (c .args .rows .now))
+loop-holds c =
+    (omega arith, wrote-none (c .args .at) (entryAt (c .args .source .now) (c .args .from)) (c .args .rows .now))
 
 add-rows : tie.Need-add-rows Inv-loop μ-loop
 add-rows c = search needs
@@ -45,18 +46,26 @@ loop-less c = search needs
 
 loop-again : tie.Need-loop-again Inv-loop μ-loop
 loop-again c =
+    let start = c .before .before .before in
     let inv = c .before .before .loop .inv in
-    let long = inv .1 .long in
-    (omega arith, wrote-more _ _ _ (entryAt (c .before .before .before .args .source .now) (c .before .before .before .args .from)) _ _ (inv .1) (omega arith) refl)
+    let long = inv .1 .long in (
+      omega arith,
+      wrote-more _ _ _ (entryAt (start .args .source .now) (start .args .from)) _ _ (inv .1) (omega arith) refl,
+    )
 
 same-length : tie.Need-same-length Inv-loop μ-loop
 same-length c = search needs
 
 returns : tie.Need-returns Inv-loop μ-loop
 returns c =
-    let inv = c .before .loop .inv in
-    let done : c .before .loop .x ≡ c .before .before .args .s = omega arith in
-    subst (λ z. Wrote (c .before .before .args .at) z (entryAt (c .before .before .args .source .now) (c .before .before .args .from)) (c .before .before .args .rows .now) (c .before .loop .rows)) done (inv .1)
+    let turn = c .before .loop in
+    let start = c .before .before in
+    let inv = turn .inv in
+    let done : turn .x ≡ start .args .s = omega arith in
+    subst
+    (λ z. Wrote (start .args .at) z (entryAt (start .args .source .now) (start .args .from)) (start .args .rows .now)
+    (turn .rows))
+    done (inv .1)
 
 pub copy-row-spec : {M : Type 1} → statement M
 copy-row-spec =

@@ -16,19 +16,28 @@ use Rattle.steps.specs.Wrote.{Wrote}
 use Rattle.steps.proofs.inner_row.Tie as tie
 
 abbrev Inv-loop : tie.InvT-loop
-Inv-loop costs rows₀ a b at s x₀ from₀ rows x from = (x ≤ s) × (from ≡ x * s) × Wrote at x (joinAt costs s rows₀ a b) rows₀ rows
+Inv-loop costs rows₀ a b at s x₀ from₀ rows x from =
+    (x ≤ s) × (from ≡ x * s) × Wrote at x (joinAt costs s rows₀ a b) rows₀ rows
 
 abbrev μ-loop : tie.MeasureT-loop
 μ-loop costs rows₀ a b at s x₀ from₀ rows x from = s - x
 
 loop-holds : tie.Need-loop-holds Inv-loop μ-loop
-loop-holds c = (omega arith, sym (zero-mul (c .before .before .args .s)), wrote-none (c .before .before .args .at) (joinAt (c .before .before .args .costs .now) (c .before .before .args .s) (c .before .before .args .rows .now) (c .before .before .args .a) (c .before .before .args .b)) (c .before .before .args .rows .now))
+loop-holds c =
+    let start = c .before .before in (
+      omega arith,
+      sym (zero-mul (start .args .s)),
+      wrote-none (start .args .at)
+          (joinAt (start .args .costs .now) (start .args .s) (start .args .rows .now) (start .args .a) (start .args .b))
+          (start .args .rows .now),
+    )
 
 join-entry-requires : tie.Need-join-entry-requires Inv-loop μ-loop
 join-entry-requires c κs =
+    let turn = c .before .before .loop in
     let start = c .before .before .before .before .before in
-    let inv = c .before .before .loop .inv in
-    let cheap = cheap-row _ _ (c .before .before .loop .x) (start .pre .0 .0) (start .pre .0 .1) (c .before .loop-test .taken) in (
+    let inv = turn .inv in
+    let cheap = cheap-row _ _ (turn .x) (start .pre .0 .0) (start .pre .0 .1) (c .before .loop-test .taken) in (
       subst (λ k. Cheap (start .args .costs .now) k (start .args .s)) (sym (inv .1)) cheap,
       (
         (
@@ -53,10 +62,12 @@ add-x c = search needs
 
 add-from : tie.Need-add-from Inv-loop μ-loop
 add-from c =
+    let turn = c .before .before .before .loop in
     let start = c .before .before .before .before .before .before in
-    let inv = c .before .before .before .loop .inv in
+    let inv = turn .inv in
     let cheap =
-    cheap-row (start .args .costs .now) (start .args .s) (c .before .before .before .loop .x) (start .pre .0 .0) (start .pre .0 .1) (c .before .before .loop-test .taken) in
+    cheap-row (start .args .costs .now) (start .args .s) (turn .x) (start .pre .0 .0) (start .pre .0 .1)
+    (c .before .before .loop-test .taken) in
     omega (arith, cheap .inside, inv .1, start .good)
 
 loop-less : tie.Need-loop-less Inv-loop μ-loop
@@ -64,9 +75,10 @@ loop-less c = search needs
 
 loop-again : tie.Need-loop-again Inv-loop μ-loop
 loop-again c =
+    let turn = c .before .before .before .loop in
     let start = c .before .before .before .before .before .before in
-    let x = c .before .before .before .loop .x in
-    let inv = c .before .before .before .loop .inv in
+    let x = turn .x in
+    let inv = turn .inv in
     let long = inv .2 .long in
     let step = suc-mul x (start .args .s) in
     let next : (x + 1) * start .args .s ≡ suc x * start .args .s = ap (λ k. k * start .args .s) (add-one x) in (
@@ -74,9 +86,12 @@ loop-again c =
       omega arith,
       wrote-more _ _ _ _ _ _ (inv .2) (omega arith)
           (c .join-entry .ensures
-          ∙ ap (λ k. plus (least (lane (start .args .costs .now) k (c .before .before .before .loop .rows) (start .args .a)) (start .args .s))
-          (least (lane (start .args .costs .now) k (c .before .before .before .loop .rows) (start .args .b)) (start .args .s))) (inv .1)
-          ∙ kept-join _ _ _ x _ _ _ _ _ (start .pre .1 .1 .0 .0) (inv .2) (start .pre .1 .1 .1 .0) (start .pre .1 .1 .1 .1)),
+          ∙ ap
+          (λ k. plus (least (lane (start .args .costs .now) k (turn .rows) (start .args .a)) (start .args .s))
+          (least (lane (start .args .costs .now) k (turn .rows) (start .args .b)) (start .args .s)))
+          (inv .1)
+          ∙ kept-join _ _ _ x _ _ _ _ _ (start .pre .1 .1 .0 .0) (inv .2) (start .pre .1 .1 .1 .0)
+          (start .pre .1 .1 .1 .1)),
     )
 
 same-length : tie.Need-same-length Inv-loop μ-loop
@@ -84,9 +99,15 @@ same-length c = search needs
 
 returns : tie.Need-returns Inv-loop μ-loop
 returns c =
-    let inv = c .before .loop .inv in
-    let done : c .before .loop .x ≡ c .before .before .before .before .args .s = omega arith in
-    subst (λ z. Wrote (c .before .before .before .before .args .at) z (joinAt (c .before .before .before .before .args .costs .now) (c .before .before .before .before .args .s) (c .before .before .before .before .args .rows .now) (c .before .before .before .before .args .a) (c .before .before .before .before .args .b)) (c .before .before .before .before .args .rows .now) (c .before .loop .rows)) done (inv .2)
+    let turn = c .before .loop in
+    let start = c .before .before .before .before in
+    let inv = turn .inv in
+    let done : turn .x ≡ start .args .s = omega arith in
+    subst
+    (λ z. Wrote (start .args .at) z
+    (joinAt (start .args .costs .now) (start .args .s) (start .args .rows .now) (start .args .a) (start .args .b))
+    (start .args .rows .now) (turn .rows))
+    done (inv .2)
 
 pub inner-row-spec : {M : Type 1} → statement M
 inner-row-spec =

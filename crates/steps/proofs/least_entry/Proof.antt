@@ -14,20 +14,26 @@ lowest-least-requires c κs = search needs
 
 add-result : tie.Need-add-result
 add-result c =
-    let low : c .lowest-least .result < c .before .before .args .s =
-    subst (λ k. k < c .before .before .args .s) (sym (c .lowest-least .ensures)) (low-within (entryAt (c .before .before .args .rows .now) (c .before .before .args .at)) (c .before .before .args .s) (c .before .before .pre .1)) in
-    omega (arith, c .before .before .good)
+    let start = c .before .before in
+    let low : c .lowest-least .result < start .args .s =
+    subst (λ k. k < start .args .s) (sym (c .lowest-least .ensures))
+    (low-within (entryAt (start .args .rows .now) (start .args .at)) (start .args .s) (start .pre .1)) in
+    omega (arith, start .good)
 
 mul-result : tie.Need-mul-result
 mul-result c =
-    let low : c .lowest-least .result < c .before .before .args .s =
-    subst (λ k. k < c .before .before .args .s) (sym (c .lowest-least .ensures)) (low-within (entryAt (c .before .before .args .rows .now) (c .before .before .args .at)) (c .before .before .args .s) (c .before .before .pre .1)) in
-    omega (arith, c .before .before .good)
+    let start = c .before .before in
+    let low : c .lowest-least .result < start .args .s =
+    subst (λ k. k < start .args .s) (sym (c .lowest-least .ensures))
+    (low-within (entryAt (start .args .rows .now) (start .args .at)) (start .args .s) (start .pre .1)) in
+    omega (arith, start .good)
 
 shared-slice-read-result : tie.Need-shared-slice-read-result
 shared-slice-read-result c =
-    let low : c .before .lowest-least .result < c .before .before .before .args .s =
-    subst (λ k. k < c .before .before .before .args .s) (sym (c .before .lowest-least .ensures)) (low-within (entryAt (c .before .before .before .args .rows .now) (c .before .before .before .args .at)) (c .before .before .before .args .s) (c .before .before .before .pre .1)) in
+    let start = c .before .before .before in
+    let low : c .before .lowest-least .result < start .args .s =
+    subst (λ k. k < start .args .s) (sym (c .before .lowest-least .ensures))
+    (low-within (entryAt (start .args .rows .now) (start .args .at)) (start .args .s) (start .pre .1)) in
     omega arith
 
 returns : tie.Need-returns

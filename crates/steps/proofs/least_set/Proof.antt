@@ -22,7 +22,9 @@ least-entry-requires : tie.Need-least-entry-requires Inv-loop μ-loop
 least-entry-requires c κs = search needs
 
 loop-holds : tie.Need-loop-holds Inv-loop μ-loop
-loop-holds c = (omega arith, least-set-none (c .before .before .args .rows .now) (c .before .before .args .at) (c .before .before .args .s))
+loop-holds c =
+    let start = c .before .before in
+    (omega arith, least-set-none (start .args .rows .now) (start .args .at) (start .args .s))
 
 add-if1 : tie.Need-add-if1 Inv-loop μ-loop
 add-if1 c = search needs
@@ -47,23 +49,31 @@ loop-less c = search needs
 
 loop-again : tie.Need-loop-again Inv-loop μ-loop
 loop-again c =
-    let y = c .before .before .before .loop .y in
-    let inv = c .before .before .before .loop .inv in
-    let best = c .before .before .before .before .least-entry .ensures in (
+    let turn = c .before .before .before .loop in
+    let least-entry = c .before .before .before .before .least-entry in
+    let start = c .before .before .before .before .before .before in
+    let y = turn .y in
+    let inv = turn .inv in
+    let best = least-entry .ensures in (
       omega arith,
       ⊎-elim
           (λ w. ap (λ (r : States). r .0) (w .3)
           ∙ w .2 .ensures
           ∙ ap₂ union (inv .1) (w .1 .ensures)
-          ∙ least-set-more (c .before .before .before .before .before .before .args .rows .now) (c .before .before .before .before .before .before .args .at) (c .before .before .before .before .before .before .args .s) y (w .0 .taken ∙ best))
-          (λ w. ap (λ (r : States). r .0) (w .1) ∙ inv .1 ∙ least-set-other (c .before .before .before .before .before .before .args .rows .now) (c .before .before .before .before .before .before .args .at) (c .before .before .before .before .before .before .args .s) y (λ e. w .0 .left (e ∙ sym best))) (c .if1 .came),
+          ∙ least-set-more (start .args .rows .now) (start .args .at) (start .args .s) y (w .0 .taken ∙ best))
+          (λ w. ap (λ (r : States). r .0) (w .1)
+          ∙ inv .1
+          ∙ least-set-other (start .args .rows .now) (start .args .at) (start .args .s) y
+          (λ e. w .0 .left (e ∙ sym best)))
+          (c .if1 .came),
     )
 
 returns : tie.Need-returns Inv-loop μ-loop
 returns c =
+    let start = c .before .before .before .before in
     let inv = c .before .loop .inv in
-    let done : c .before .loop .y ≡ c .before .before .before .before .args .s = omega arith in
-    inv .1 ∙ ap (leastSet (c .before .before .before .before .args .rows .now) (c .before .before .before .before .args .at) (c .before .before .before .before .args .s)) done
+    let done : c .before .loop .y ≡ start .args .s = omega arith in
+    inv .1 ∙ ap (leastSet (start .args .rows .now) (start .args .at) (start .args .s)) done
 
 pub least-set-spec : {M : Type 1} → statement M
 least-set-spec =

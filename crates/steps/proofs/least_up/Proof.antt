@@ -21,7 +21,13 @@ through-requires : tie.Need-through-requires Inv-loop μ-loop
 through-requires c κs = search needs
 
 loop-holds : tie.Need-loop-holds Inv-loop μ-loop
-loop-holds c = (omega arith, omega arith, c .through .ensures ∙ least-one (lane (c .before .before .before .args .costs .now) (c .before .before .before .args .from) (c .before .before .before .args .rows .now) (c .before .before .before .args .at)))
+loop-holds c =
+    let start = c .before .before .before in (
+      omega arith,
+      omega arith,
+      c .through .ensures
+          ∙ least-one (lane (start .args .costs .now) (start .args .from) (start .args .rows .now) (start .args .at)),
+    )
 
 through-requires-2 : tie.Need-through-requires-2 Inv-loop μ-loop
 through-requires-2 c κs = search needs
@@ -34,9 +40,11 @@ loop-less c = search needs
 
 loop-again : tie.Need-loop-again Inv-loop μ-loop
 loop-again c =
-    let f : ℕ → ℕ = lane (c .before .before .before .before .before .before .before .args .costs .now) (c .before .before .before .before .before .before .before .args .from) (c .before .before .before .before .before .before .before .args .rows .now) (c .before .before .before .before .before .before .before .args .at) in
-    let y = c .before .before .before .loop .y in
-    let inv = c .before .before .before .loop .inv in
+    let turn = c .before .before .before .loop in
+    let start = c .before .before .before .before .before .before .before in
+    let f : ℕ → ℕ = lane (start .args .costs .now) (start .args .from) (start .args .rows .now) (start .args .at) in
+    let y = turn .y in
+    let inv = turn .inv in
     let here = c .before .through2 .ensures in (
       omega arith,
       omega arith,
@@ -46,9 +54,11 @@ loop-again c =
 
 returns : tie.Need-returns Inv-loop μ-loop
 returns c =
+    let start = c .before .before .before .before .before in
     let inv = c .before .loop .inv in
-    let done : c .before .loop .y ≡ c .before .before .before .before .before .args .s = omega arith in
-    inv .2 ∙ ap (least (lane (c .before .before .before .before .before .args .costs .now) (c .before .before .before .before .before .args .from) (c .before .before .before .before .before .args .rows .now) (c .before .before .before .before .before .args .at))) done
+    let done : c .before .loop .y ≡ start .args .s = omega arith in
+    inv .2
+    ∙ ap (least (lane (start .args .costs .now) (start .args .from) (start .args .rows .now) (start .args .at))) done
 
 pub least-up-spec : {M : Type 1} → statement M
 least-up-spec =

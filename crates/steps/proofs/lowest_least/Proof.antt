@@ -46,22 +46,14 @@ loop-less c = search needs
 
 loop-again : tie.Need-loop-again Inv-loop μ-loop
 loop-again c =
-    let f : ℕ → ℕ = entryAt (c .before .before .before .before .before .args .rows .now) (c .before .before .before .before .before .args .at) in
-    let y = c .before .before .before .before .loop .y in
-    let inv = c .before .before .before .before .loop .inv in
+    let turn = c .before .before .before .before .loop in
+    let start = c .before .before .before .before .before in
+    let f : ℕ → ℕ = entryAt (start .args .rows .now) (start .args .at) in
+    let y = turn .y in
+    let inv = turn .inv in
     ⊎-elim
-    (λ w. (
-      omega arith,
-      omega arith,
-      omega (arith, w .1),
-      looked-lower f y _ (inv .3) (w .0 .taken) ∙ sym (w .1),
-    ))
-    (λ w. (
-      omega arith,
-      omega arith,
-      omega (arith, w .1),
-      looked-other f y _ (inv .3) (w .0 .left) ∙ sym (w .1),
-    ))
+    (λ w. (omega arith, omega arith, omega (arith, w .1), looked-lower f y _ (inv .3) (w .0 .taken) ∙ sym (w .1)))
+    (λ w. (omega arith, omega arith, omega (arith, w .1), looked-other f y _ (inv .3) (w .0 .left) ∙ sym (w .1)))
     (c .if1 .came)
 
 returns : tie.Need-returns Inv-loop μ-loop

@@ -22,7 +22,12 @@ least-up-requires : tie.Need-least-up-requires Inv-loop μ-loop
 least-up-requires c κs = search needs
 
 loop-holds : tie.Need-loop-holds Inv-loop μ-loop
-loop-holds c = (omega arith, reached-none (c .before .before .before .args .costs .now) (c .before .before .before .args .from) (c .before .before .before .args .rows .now) (c .before .before .before .args .at) (c .before .before .before .args .s))
+loop-holds c =
+    let start = c .before .before .before in (
+      omega arith,
+      reached-none (start .args .costs .now) (start .args .from) (start .args .rows .now) (start .args .at)
+          (start .args .s),
+    )
 
 through-requires : tie.Need-through-requires Inv-loop μ-loop
 through-requires c κs = search needs
@@ -41,26 +46,36 @@ loop-less c = search needs
 
 loop-again : tie.Need-loop-again Inv-loop μ-loop
 loop-again c =
-    let y = c .before .before .before .loop .y in
-    let inv = c .before .before .before .loop .inv in
+    let turn = c .before .before .before .loop in
+    let least-up = c .before .before .before .before .least-up in
+    let start = c .before .before .before .before .before .before .before in
+    let y = turn .y in
+    let inv = turn .inv in
     let here = c .before .through .ensures in
-    let best = c .before .before .before .before .least-up .ensures in (
+    let best = least-up .ensures in (
       omega arith,
       ⊎-elim
           (λ w. ap (λ (r : States). r .0) (w .3)
           ∙ w .2 .ensures
           ∙ ap₂ union (inv .1) (w .1 .ensures)
-          ∙ reached-more (c .before .before .before .before .before .before .before .args .costs .now) (c .before .before .before .before .before .before .before .args .from) (c .before .before .before .before .before .before .before .args .rows .now) (c .before .before .before .before .before .before .before .args .at) (c .before .before .before .before .before .before .before .args .s) y (sym here ∙ w .0 .taken ∙ best))
+          ∙ reached-more (start .args .costs .now) (start .args .from) (start .args .rows .now) (start .args .at)
+          (start .args .s) y (sym here ∙ w .0 .taken ∙ best))
           (λ w. ap (λ (r : States). r .0) (w .1)
           ∙ inv .1
-          ∙ reached-other (c .before .before .before .before .before .before .before .args .costs .now) (c .before .before .before .before .before .before .before .args .from) (c .before .before .before .before .before .before .before .args .rows .now) (c .before .before .before .before .before .before .before .args .at) (c .before .before .before .before .before .before .before .args .s) y (λ e. w .0 .left (here ∙ e ∙ sym best))) (c .if1 .came),
+          ∙ reached-other (start .args .costs .now) (start .args .from) (start .args .rows .now) (start .args .at)
+          (start .args .s) y (λ e. w .0 .left (here ∙ e ∙ sym best)))
+          (c .if1 .came),
     )
 
 returns : tie.Need-returns Inv-loop μ-loop
 returns c =
+    let start = c .before .before .before .before .before in
     let inv = c .before .loop .inv in
-    let done : c .before .loop .y ≡ c .before .before .before .before .before .args .s = omega arith in
-    inv .1 ∙ ap (reached (c .before .before .before .before .before .args .costs .now) (c .before .before .before .before .before .args .from) (c .before .before .before .before .before .args .rows .now) (c .before .before .before .before .before .args .at) (c .before .before .before .before .before .args .s)) done
+    let done : c .before .loop .y ≡ start .args .s = omega arith in
+    inv .1
+    ∙ ap
+    (reached (start .args .costs .now) (start .args .from) (start .args .rows .now) (start .args .at) (start .args .s))
+    done
 
 pub reach-set-spec : {M : Type 1} → statement M
 reach-set-spec =

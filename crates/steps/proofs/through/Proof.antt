@@ -36,15 +36,18 @@ barred-sum-requires : tie.Need-barred-sum-requires
 barred-sum-requires c κs =
     let start = c .before .before .before .before .before in
     let cheap = start .pre .0 .cheap (start .args .y) (start .pre .1 .1) in
-    let same = c .before .wide .ensures in
-    (inl (omega arith), ⊎-elim (λ h. inl (omega arith)) (λ e. inr e) (start .pre .1 .0 .calm (start .args .y) (start .pre .1 .1)))
+    let same = c .before .wide .ensures in (
+      inl (omega arith),
+      ⊎-elim (λ h. inl (omega arith)) (λ e. inr e) (start .pre .1 .0 .calm (start .args .y) (start .pre .1 .1)),
+    )
 
 returns : tie.Need-returns
 unfolding lane
 returns c =
+    let start = c .before .before .before .before .before .before in
     c .barred-sum .ensures
-    ∙ ap (λ w. plus w (getD (c .before .before .before .before .before .before .args .rows .now)
-    (c .before .before .before .before .before .before .args .at + c .before .before .before .before .before .before .args .y) 0)) (c .before .before .wide .ensures)
+    ∙ ap (λ w. plus w (getD (start .args .rows .now) (start .args .at + start .args .y) 0))
+    (c .before .before .wide .ensures)
 
 pub through-spec : {M : Type 1} → statement M
 through-spec =

@@ -1,5 +1,6 @@
--- `fill_prelims` meets its contract. The loop's invariant: the sets of the nodes below v, and nothing else, are written, and
--- the changes counted at these nodes are summed. The measure is what is left of the nodes. Assumes nothing.
+-- `fill_prelims` meets its contract. The loop's invariant: the sets of the nodes below v, and nothing else, are
+-- written, and the changes counted at these nodes are summed. The measure is what is left of the nodes. Assumes
+-- nothing.
 use mathlib.Core.Path.{_≡_}
 use Prim.Native.Nat.{_+_, _-_, _≤_}
 use native.Mathlib.Omega.{arith}

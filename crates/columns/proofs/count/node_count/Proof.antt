@@ -7,9 +7,10 @@ use borrow.Author.Needs.{needs}
 use lib.ListN.{length}
 use Rattle.parsimony.specs.Column.{cellAt}
 use Rattle.parsimony.specs.Table.{symbol, handed, Node, leaf, inner, nodeAt}
+use Rattle.parsimony.proofs.ColumnLaws.{cell-place}
 use Rattle.trees.specs.NodeOf.{nodeOf}
 use Rattle.columns.proofs.CountSteps.{tip-count, inner-count}
-use Rattle.columns.proofs.PlaceLaws.{cell-inside, kids-below}
+use Rattle.columns.proofs.PlaceLaws.{kids-below}
 use Rattle.columns.proofs.count.node_count.Statement.{statement}
 use Rattle.columns.proofs.count.node_count.Tie as tie
 
@@ -35,14 +36,16 @@ cell-at : (c : tie.After-r)
     → c .r .given .0 .0 * from-r c .args .c + from-r c .args .j < length (from-r c .args .cells .now)
 cell-at c =
     let start = from-r c in
-    cell-inside (start .pre .0) (start .args .v) (start .pre .1 .1 .0 .0) (start .args .c) (start .args .cells .now)
-    (start .args .j) (c .r .given .0 .0) (start .pre .1 .0 .0) (start .pre .1 .0 .1) (is-symbol c)
+    cell-place (start .pre .0) (start .args .v) (start .pre .1 .1 .0 .0) (start .args .c) (start .args .j)
+    (c .r .given .0 .0) (length (start .args .cells .now)) (start .pre .1 .0 .0) (start .pre .1 .0 .1)
+    (sym (is-symbol c))
 
 -- the children are numbered below node v
 kids-at : (c : tie.After-a) → (c .a .given .0 .0 < from-a c .args .v) × (c .a .given .0 .1 .0 < from-a c .args .v)
 kids-at c =
     let start = from-a c in
-    kids-below (start .pre .0) (start .args .v) (start .pre .1 .1 .0 .0) (c .a .given .0 .0) (c .a .given .0 .1 .0) (is-inner c)
+    kids-below (start .pre .0) (start .args .v) (start .pre .1 .1 .0 .0) (c .a .given .0 .0) (c .a .given .0 .1 .0)
+    (is-inner c)
 
 node-at-requires : tie.Need-node-at-requires
 node-at-requires c κs = let equal = c .before .before .before .before .pre .0 .size .equal in omega arith

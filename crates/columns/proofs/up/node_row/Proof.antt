@@ -6,10 +6,19 @@ use native.Mathlib.Omega.{arith}
 use borrow.Author.Needs.{needs}
 use lib.ListN.{length}
 use Rattle.parsimony.specs.Table.{symbol, handed, Node, leaf, inner, nodeAt}
+use Rattle.parsimony.proofs.ColumnLaws.{cell-place}
 use Rattle.steps.proofs.WroteLaws.{wrote-same}
 use Rattle.trees.specs.NodeOf.{nodeOf}
-use Rattle.columns.proofs.PlaceLaws.{row-inside, product-fits, cell-inside}
-use Rattle.columns.proofs.RowSteps.{CalmKids, symbol-row, handed-small, handed-in, handed-row, kids-calm, inner-row}
+use Rattle.columns.proofs.PlaceLaws.{row-inside, product-fits}
+use Rattle.columns.proofs.RowSteps.{
+  CalmKids,
+  symbol-row,
+  handed-small,
+  handed-in,
+  handed-row,
+  kids-calm,
+  inner-row,
+}
 use Rattle.columns.proofs.up.node_row.Statement.{statement}
 use Rattle.columns.proofs.up.node_row.Tie as tie
 
@@ -48,12 +57,14 @@ cell-at : (c : tie.After-r)
 cell-at c =
     let start = from-r c in
     let ready = start .pre .0 in
-    cell-inside (ready .legal) (start .args .v) (start .pre .1 .1 .0 .0) (start .args .c) (start .args .cells .now)
-    (start .args .j) (c .r .given .0 .0) (ready .cellsFit .count) (ready .inside) (is-symbol c)
+    cell-place (ready .legal) (start .args .v) (start .pre .1 .1 .0 .0) (start .args .c) (start .args .j)
+    (c .r .given .0 .0) (length (start .args .cells .now)) (ready .cellsFit .count) (ready .inside) (sym (is-symbol c))
 
 -- a handed tip's row is one of h, and small
 small-at : (c : tie.After-k)
-    → (c .k .given .0 .0 < from-k c .args .h) × (from-k c .args .h ≤ 1023) × (from-k c .args .j * from-k c .args .h ≤ 67042305)
+    → (c .k .given .0 .0 < from-k c .args .h)
+    × (from-k c .args .h ≤ 1023)
+    × (from-k c .args .j * from-k c .args .h ≤ 67042305)
 small-at c =
     let start = from-k c in
     handed-small (start .pre .0) (start .args .v) (start .pre .1 .1 .0 .0) (start .args .h) (start .pre .1 .0)
@@ -61,11 +72,12 @@ small-at c =
 
 -- the children's rows stand below, and are calm
 kids-at : (c : tie.After-a)
-    → CalmKids (from-a c .args .rows .now) (from-a c .args .s) (from-a c .args .v) (c .a .given .0 .0) (c .a .given .0 .1 .0)
+    → CalmKids (from-a c .args .rows .now) (from-a c .args .s) (from-a c .args .v) (c .a .given .0 .0)
+    (c .a .given .0 .1 .0)
 kids-at c =
     let start = from-a c in
-    kids-calm (start .pre .0) (start .args .v) (start .pre .1 .1 .0 .0) (start .args .rows .now) (start .pre .1 .1 .0 .1)
-    (start .pre .1 .1 .1) (c .a .given .0 .0) (c .a .given .0 .1 .0) (is-inner c)
+    kids-calm (start .pre .0) (start .args .v) (start .pre .1 .1 .0 .0) (start .args .rows .now)
+    (start .pre .1 .1 .0 .1) (start .pre .1 .1 .1) (c .a .given .0 .0) (c .a .given .0 .1 .0) (is-inner c)
 
 mul-at : tie.Need-mul-at
 mul-at c = let last = room (c .before .before .before .before .before .before) in omega arith
@@ -159,8 +171,8 @@ returns-2 c =
     let at = c .before .before .before .before .before in
     let start = from-k at in
     wrote-same _ _ _ _ _ _ (c .before .before .copy-row .ensures)
-    (handed-row (start .pre .0) (start .args .v) (start .pre .1 .1 .0 .0) (start .args .h) (start .pre .1 .0) (at .k .given .0 .0)
-    (is-handed at))
+    (handed-row (start .pre .0) (start .args .v) (start .pre .1 .1 .0 .0) (start .args .h) (start .pre .1 .0)
+    (at .k .given .0 .0) (is-handed at))
 
 same-length-3 : tie.Need-same-length-3
 same-length-3 c = search needs
@@ -170,8 +182,8 @@ returns-3 c =
     let at = c .before .before .before .before .before in
     let start = from-a at in
     wrote-same _ _ _ _ _ _ (c .before .before .inner-row .ensures)
-    (inner-row (start .pre .0) (start .args .v) (start .pre .1 .1 .0 .0) (start .args .rows .now) (start .pre .1 .1 .0 .1)
-    (start .pre .1 .1 .1) (at .a .given .0 .0) (at .a .given .0 .1 .0) (is-inner at))
+    (inner-row (start .pre .0) (start .args .v) (start .pre .1 .1 .0 .0) (start .args .rows .now)
+    (start .pre .1 .1 .0 .1) (start .pre .1 .1 .1) (at .a .given .0 .0) (at .a .given .0 .1 .0) (is-inner at))
 
 pub node-row-spec : {M : Type 1} → statement M
 node-row-spec =

@@ -1,6 +1,9 @@
--- `shape::check_tree` meets its contract: the walk starts from the counts of all nodes and from marks that are all 0.
+-- `shape::check_tree` meets its contract: the walk starts from the counts of all tips and from marks that are all 0,
+-- and the uses by the nodes after it are added to its marks before an unused node is looked for.
 -- Assumes nothing.
+use native.Mathlib.Omega.{arith}
 use borrow.Author.Needs.{needs}
+use Rattle.trees.proofs.FoundLaws.{found-none, found-fault}
 use Rattle.trees.proofs.MarkLaws.{counted-zeros}
 use Rattle.trees.proofs.VisitLaws.{surveyed, marked-none}
 use Rattle.trees.proofs.shape.check_tree.Statement.{statement}
@@ -12,25 +15,61 @@ tips-of-requires c κs = search needs
 tips-of-requires-2 : tie.Need-tips-of-requires-2
 tips-of-requires-2 c κs = search needs
 
-note-children-requires : tie.Need-note-children-requires
-note-children-requires c κs = (c .before .before .before .before .before .pre, counted-zeros)
-
 walk-requires : tie.Need-walk-requires
 walk-requires c κs =
-    let noted = c .before .before .before .before in
-    let counted = noted .before .before in
-    let start = counted .before .before .before .before in (
+    let tips-of2 = c .before .before .before .tips-of2 in
+    let tips-of = c .before .before .before .before .tips-of in
+    let start = c .before .before .before .before .before .before .before in (
       start .pre .equal,
       (
-        surveyed (start .pre .most) (counted .before .tips-of .ensures) (counted .tips-of2 .ensures) (noted .note-children .ensures),
+        surveyed (start .pre .most) (tips-of .ensures) (tips-of2 .ensures),
         marked-none _ _ _ _ counted-zeros counted-zeros counted-zeros,
       ),
     )
 
+note-children-requires : tie.Need-note-children-requires
+note-children-requires c κs =
+    let start = c .before .before .before .before .before .before .before .before .before in
+    ((start .pre, omega (arith, c .before .walk .ensures .0 .within)), c .before .walk .ensures .1)
+
+first-unused-requires : tie.Need-first-unused-requires
+first-unused-requires c κs =
+    let walk = c .before .before .before .walk in
+    let start = c .before .before .before .before .before .before .before .before .before .before .before in
+    (omega (arith, walk .ensures .0 .within), start .pre .most)
+
+-- no node is at fault
 returns : tie.Need-returns
-returns c = search needs
+returns c =
+    let note-children = c .before .before .before .note-children in
+    let walked = c .before .before .before .before .before in
+    let walk = walked .walk in
+    let start = walked .before .before .before .before .before .before .before .before in
+    record {
+      found = found-none (start .pre .most) (note-children .ensures) (walk .ensures .0)
+          (c .before .first-unused .ensures) (c .if1 .taken);
+    }
+
+-- a node is
+returns-2 : tie.Need-returns-2
+returns-2 c =
+    let note-children = c .before .before .before .note-children in
+    let walked = c .before .before .before .before .before in
+    let walk = walked .walk in
+    let start = walked .before .before .before .before .before .before .before .before in
+    record {
+      found = found-fault (start .pre .most) (note-children .ensures) (walk .ensures .0)
+          (c .before .first-unused .ensures) (c .if1 .left);
+    }
 
 pub check-tree-spec : {M : Type 1} → statement M
 check-tree-spec =
     tie.close
-    (tie.spec tips-of-requires tips-of-requires-2 note-children-requires walk-requires returns)
+    (tie.spec
+    tips-of-requires
+    tips-of-requires-2
+    walk-requires
+    note-children-requires
+    first-unused-requires
+    returns
+    returns-2)

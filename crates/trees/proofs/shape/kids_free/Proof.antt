@@ -1,4 +1,4 @@
--- `shape::kids_free` meets its contract: each test that fails refutes one part of the statement, and together they are it.
+-- `shape::kids_free` meets its contract: each failed test refutes one part of the statement, and together they are it.
 -- Assumes nothing.
 use native.Mathlib.Omega.{arith}
 use borrow.Author.Needs.{needs}

@@ -7,32 +7,28 @@ use borrow.Author.Needs.{needs}
 use lib.ListN.{length}
 use Rattle.parsimony.specs.Table.{nodeAt, childUses}
 use Rattle.trees.specs.Marks.{Counted}
-use Rattle.trees.proofs.MarkLaws.{counted-same, children-low, children-counted, children-end}
-use Rattle.trees.proofs.ShapeSteps.{uses-none}
+use Rattle.trees.proofs.MarkLaws.{children-low, children-counted, children-end}
 use Rattle.trees.proofs.shape.note_children.Statement.{statement}
 use Rattle.trees.proofs.shape.note_children.Tie as tie
 
 abbrev Inv-loop : tie.InvT-loop
-Inv-loop left right used₀ v₀ used v = (v ≤ length left) × Counted (childUses (nodeAt left right) v) used
+Inv-loop left right first used₀ v₀ used v = (v ≤ length left) × Counted (childUses (nodeAt left right) v) used
 
 abbrev μ-loop : tie.MeasureT-loop
-μ-loop left right used₀ v₀ used v = length left - v
+μ-loop left right first used₀ v₀ used v = length left - v
 
 loop-holds : tie.Need-loop-holds Inv-loop μ-loop
-loop-holds c =
-    let start = c .before .before in
-    let none = uses-none (nodeAt (start .args .left .now) (start .args .right .now)) in
-    (omega arith, counted-same _ _ _ (start .pre .1) none)
+loop-holds c = (omega arith, c .before .before .pre .1)
 
 node-at-requires : tie.Need-node-at-requires Inv-loop μ-loop
-node-at-requires c κs = omega (arith, c .before .before .before .before .pre .0 .equal)
+node-at-requires c κs = omega (arith, c .before .before .before .before .pre .0 .0 .equal)
 
 note-kids-requires : tie.Need-note-kids-requires Inv-loop μ-loop
 note-kids-requires c κs =
-    let turn = c .before .before .before in
-    let start = turn .before .before .before in
-    let node = nodeAt (start .args .left .now) (start .args .right .now) in
-    children-low node (turn .loop .inv .1) (omega (arith, start .pre .0 .most))
+    let turn = c .before .before .before .loop in
+    let start = c .before .before .before .before .before .before in
+    children-low (nodeAt (start .args .left .now) (start .args .right .now)) (turn .inv .1)
+    (omega (arith, start .pre .0 .0 .most))
 
 add-v : tie.Need-add-v Inv-loop μ-loop
 add-v c = search needs
@@ -42,18 +38,18 @@ loop-less c = search needs
 
 loop-again : tie.Need-loop-again Inv-loop μ-loop
 loop-again c =
-    let turn = c .before .before .before .before in
-    let start = turn .before .before .before in
-    let node = nodeAt (start .args .left .now) (start .args .right .now) in (
+    let turn = c .before .before .before .before .loop in
+    let start = c .before .before .before .before .before .before .before in (
       omega arith,
-      children-counted node _ _ (c .before .before .node-at .ensures) _ _ (turn .loop .inv .1) (c .note-kids .ensures),
+      children-counted (nodeAt (start .args .left .now) (start .args .right .now)) _ _
+          (c .before .before .node-at .ensures) _ _ (turn .inv .1) (c .note-kids .ensures),
     )
 
 returns : tie.Need-returns Inv-loop μ-loop
 returns c =
     let start = c .before .before .before .before in
-    let node = nodeAt (start .args .left .now) (start .args .right .now) in
-    children-end node (c .before .loop .inv .0) (c .loop-test .left) (c .before .loop .inv .1)
+    children-end (nodeAt (start .args .left .now) (start .args .right .now)) (c .before .loop .inv .0)
+    (c .loop-test .left) (c .before .loop .inv .1)
 
 pub note-children-spec : {M : Type 1} → statement M
 note-children-spec =

@@ -1,4 +1,4 @@
--- `shape::note_kids` meets its contract: a tip adds nothing, and an inner node one use for each child, one after the other.
+-- `shape::note_kids` meets its contract: a tip adds nothing, and an inner node one use for each child.
 -- Assumes nothing.
 use mathlib.Core.Path.{refl}
 use native.Mathlib.Omega.{arith}

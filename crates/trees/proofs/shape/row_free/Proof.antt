@@ -1,4 +1,4 @@
--- `shape::row_free` meets its contract: each test that fails refutes one part of the statement, and together they are it.
+-- `shape::row_free` meets its contract: each failed test refutes one part of the statement, and together they are it.
 -- Assumes nothing.
 use native.Mathlib.Omega.{arith}
 use borrow.Author.Needs.{needs}

@@ -21,17 +21,14 @@ abbrev μ-loop : tie.MeasureT-loop
 loop-holds : tie.Need-loop-holds Inv-loop μ-loop
 loop-holds c = (omega arith, sym (tips-none _ _))
 
-node-at-requires : tie.Need-node-at-requires Inv-loop μ-loop
-node-at-requires c κs = omega (arith, c .before .before .before .before .pre .equal)
-
-tip-of-requires : tie.Need-tip-of-requires Inv-loop μ-loop
-tip-of-requires c κs = search needs
+tip-at-requires : tie.Need-tip-at-requires Inv-loop μ-loop
+tip-at-requires c κs = omega (arith, c .before .before .before .before .pre .equal)
 
 add-count : tie.Need-add-count Inv-loop μ-loop
 add-count c =
-    let turn = c .before .before .before in
-    let step = tips-step _ _ _ _ _ _ (c .before .node-at .ensures) (turn .loop .inv .1) (c .tip-of .ensures) in
-    omega (arith, turn .before .before .before .pre .most)
+    let start = c .before .before .before .before .before in
+    let step = tips-step _ _ _ _ _ (c .before .before .loop .inv .1) (c .tip-at .ensures) in
+    omega (arith, start .pre .most)
 
 add-v : tie.Need-add-v Inv-loop μ-loop
 add-v c = search needs
@@ -41,12 +38,13 @@ loop-less c = search needs
 
 loop-again : tie.Need-loop-again Inv-loop μ-loop
 loop-again c =
-    let turn = c .before .before .before in
-    let step = tips-step _ _ _ _ _ _ (c .before .node-at .ensures) (turn .loop .inv .1) (c .tip-of .ensures) in
-    (omega arith, step .0)
+    let step = tips-step _ _ _ _ _ (c .before .before .loop .inv .1) (c .tip-at .ensures) in (omega arith, step .0)
+
+wide-requires : tie.Need-wide-requires Inv-loop μ-loop
+wide-requires c κs = search needs
 
 returns : tie.Need-returns Inv-loop μ-loop
-returns c = c .before .loop .inv .1 ∙ ap (tips _ _) (omega arith)
+returns c = c .wide .ensures ∙ c .before .before .loop .inv .1 ∙ ap (tips _ _) (omega arith)
 
 pub tips-of-spec : {M : Type 1} → statement M
 tips-of-spec =
@@ -55,10 +53,10 @@ tips-of-spec =
     Inv-loop
     μ-loop
     loop-holds
-    node-at-requires
-    tip-of-requires
+    tip-at-requires
     add-count
     add-v
     loop-less
     loop-again
+    wide-requires
     returns)

@@ -1,79 +1,75 @@
--- `shape::visit` meets its contract: the marks tell whether the node keeps the rules, and its uses are added to them.
+-- `shape::visit` meets its contract: in each arm the node is known, and what it uses is taken if it is free.
 -- Assumes nothing.
+use mathlib.Core.Path.{ap, sym, _∙_}
 use borrow.Author.Needs.{needs}
 use Rattle.parsimony.specs.Table.{symbol, handed}
-use Rattle.trees.proofs.VisitLaws.{marks-room, seen-room, rows-room, entries-broken, use-broken, both-keep, marked-next}
+use Rattle.trees.specs.NodeOf.{nodeOf}
+use Rattle.trees.proofs.VisitLaws.{marks-room, seen-room, rows-room, visit-tip, visit-inner}
 use Rattle.trees.proofs.shape.visit.Statement.{statement}
 use Rattle.trees.proofs.shape.visit.Tie as tie
 
 node-at-requires : tie.Need-node-at-requires
 node-at-requires c κs = search needs
 
-keeps-entries-requires : tie.Need-keeps-entries-requires
-keeps-entries-requires c κs = marks-room (c .before .before .before .before .before .before .pre .1)
+enum-known-r : tie.Need-enum-known-r
+enum-known-r c = search needs
 
--- its entries do not keep the rules
+take-row-requires : tie.Need-take-row-requires
+take-row-requires c κs =
+    let start = c .before .before .before .before .before .before .before in
+    (marks-room (start .pre .1) .1 symbol, rows-room (start .pre .1) symbol)
+
+enum-known-k : tie.Need-enum-known-k
+enum-known-k c = search needs
+
+take-row-requires-2 : tie.Need-take-row-requires-2
+take-row-requires-2 c κs =
+    let start = c .before .before .before .before .before .before .before in
+    (marks-room (start .pre .1) .1 handed, rows-room (start .pre .1) handed)
+
+enum-known-a : tie.Need-enum-known-a
+enum-known-a c = search needs
+
+take-kids-requires : tie.Need-take-kids-requires
+take-kids-requires c κs =
+    let start = c .before .before .before .before .before .before .before in
+    (marks-room (start .pre .1) .0, seen-room (start .pre .1))
+
+-- a symbol tip
 returns : tie.Need-returns
 returns c =
-    let found = c .before .before .before .before .before in
-    let start = found .before .before .before in
-    record {
-      visited = entries-broken (start .pre .1) (found .node-at .ensures) (c .before .keeps-entries .ensures) (c .if1 .taken);
-    }
+    let r = c .before .before .before .r in
+    let node-at = c .before .before .before .before .before .node-at in
+    let start = c .before .before .before .before .before .before .before .before in
+    visit-tip (start .pre .1) symbol (sym (ap nodeOf (r .given .1)) ∙ node-at .ensures) (c .take-row .ensures)
 
-has-parent-requires : tie.Need-has-parent-requires
-has-parent-requires c κs = search needs
-
--- it has no use
+-- a handed tip
 returns-2 : tie.Need-returns-2
 returns-2 c =
-    let start = c .before .before .before .before .before .before .before .before .before .before in
-    record { visited = use-broken (start .pre .1) (c .before .has-parent .ensures) (c .if2 .taken) }
+    let k = c .before .before .before .k in
+    let node-at = c .before .before .before .before .before .node-at in
+    let start = c .before .before .before .before .before .before .before .before in
+    visit-tip (start .pre .1) handed (sym (ap nodeOf (k .given .1)) ∙ node-at .ensures) (c .take-row2 .ensures)
 
-note-kids-requires : tie.Need-note-kids-requires
-note-kids-requires c κs =
-    let start = c .before .before .before .before .before .before .before .before .before .before .before in
-    seen-room (start .pre .1)
-
-note-row-requires : tie.Need-note-row-requires
-note-row-requires c κs =
-    let tested = c .before .before .before .before .before in
-    let start = tested .before .before .before .before .before .before .before .before in
-    rows-room (start .pre .1) symbol
-
-note-row-requires-2 : tie.Need-note-row-requires-2
-note-row-requires-2 c κs =
-    let tested = c .before .before .before .before .before .before .before .before .before in
-    let start = tested .before .before .before .before .before .before in
-    rows-room (start .pre .1) handed
-
--- it keeps the rules
+-- an inner node
 returns-3 : tie.Need-returns-3
 returns-3 c =
-    let tested = c .before .before .before .before .before .before in
-    let asked = tested .before .before in
-    let found = asked .before .before .before .before .before in
-    let start = found .before .before .before in
-    let node = found .node-at .ensures in
-    record {
-      visited = (
-        both-keep (start .pre .1) node (asked .before .keeps-entries .ensures) (asked .if1 .left)
-            (tested .before .has-parent .ensures) (tested .if2 .left),
-        marked-next node (start .pre .1 .marks) (c .before .before .before .before .note-kids .ensures) (c .before .before .note-row .ensures)
-            (c .note-row2 .ensures),
-      );
-    }
+    let a = c .before .before .before .a in
+    let node-at = c .before .before .before .before .before .node-at in
+    let start = c .before .before .before .before .before .before .before .before in
+    visit-inner (start .pre .1) (sym (ap nodeOf (a .given .1)) ∙ node-at .ensures) (c .take-kids .ensures)
 
 pub visit-spec : {M : Type 1} → statement M
 visit-spec =
     tie.close
     (tie.spec
     node-at-requires
-    keeps-entries-requires
+    enum-known-r
+    take-row-requires
+    enum-known-k
+    take-row-requires-2
+    enum-known-a
+    take-kids-requires
     returns
-    has-parent-requires
     returns-2
-    note-kids-requires
-    note-row-requires
-    note-row-requires-2
     returns-3)
