@@ -22,7 +22,7 @@ const MOST_NAMES: usize = 512;
 const LINE_END: u8 = 10;
 
 // The byte is a letter, a digit, `_`, `.` or `-`.
-fn name_byte(byte: u8) -> bool
+pub fn name_byte(byte: u8) -> bool
     ensures { λ r. ⌜ r ≡ isNameByte byte ⌝ }
 {
     if byte_within(byte, b'A', b'Z') {
@@ -47,7 +47,7 @@ fn name_byte(byte: u8) -> bool
 }
 
 // Every byte from a place up to another may stand in a name.
-fn name_bytes(sheet: &[u8], at: usize, end: usize) -> bool
+pub fn name_bytes(sheet: &[u8], at: usize, end: usize) -> bool
     requires { ⌜ end ≤ length (now sheet) ⌝ }
     ensures { λ r. ⌜ r ≡ every isNameByte (textOf (now (sheet .entry)) at end) ⌝ }
 {

@@ -36,9 +36,21 @@ pub fn read_sections(sheet: &[u8], names: &mut [usize], table: &mut [[u16; 4]; 4
         Count::Miscounted(fault) => Reading::Faulty(fault),
         Count::Counted(t, columns_at) => match matrix_section(sheet, t, columns_at, t + 2) {
             Matrix::NoCells(fault) => Reading::Faulty(fault),
-            Matrix::Cells(c, cells, costs_at) => match costs_section(sheet, costs_at, t + t + 3, table) {
+            Matrix::Cells(c, cells, costs_at) => match costs_section(
+                sheet,
+                costs_at,
+                t + t + 3,
+                table,
+            ) {
                 Count::Miscounted(fault) => Reading::Faulty(fault),
-                Count::Counted(k, tree_at) => match read_count(sheet, tree_at, t + t + 4 + k, b"tree ", 1, 1) {
+                Count::Counted(k, tree_at) => match read_count(
+                    sheet,
+                    tree_at,
+                    t + t + 4 + k,
+                    b"tree ",
+                    1,
+                    1,
+                ) {
                     Count::Miscounted(fault) => Reading::Faulty(fault),
                     Count::Counted(_, tree) => Reading::Sound(Sections {
                         tips: t,

@@ -1,0 +1,16 @@
+-- `newick::set_mark` meets its contract.
+-- Assumes nothing.
+use Rattle.newick.specs.Marks.{marked}
+use mathlib.Core.Path.{refl}
+use Rattle.newick.proofs.set_mark.Statement.{statement}
+use Rattle.newick.proofs.set_mark.Tie as tie
+
+element-write-marks : tie.Need-element-write-marks
+element-write-marks c = (c .pre)
+
+returns : tie.Need-returns
+unfolding marked
+returns c = refl
+
+pub set-mark-spec : {M : Type 1} → statement M
+set-mark-spec = tie.close (tie.spec element-write-marks returns)
