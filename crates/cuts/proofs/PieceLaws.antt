@@ -6,14 +6,14 @@ use mathlib.Core.Path.{_≡_, refl, ap, ap₂, sym, _∙_, subst}
 use Prim.Native.Nat.{ℕ, suc, _+_, _*_, _-_, _%_, _≤_, _<_}
 use native.Mathlib.Nat.{one-mul, zero-mul, mul-zero, mul-one}
 use native.Mathlib.Omega.{arith}
-use borrow.Author.Tests.{eq-eqb, ne-eqb, lt-ltb, le-ltb}
 use lib.ListN.{length, getD}
 use Rattle.parsimony.specs.Row.{row}
 use Rattle.parsimony.specs.Sum.{sum}
-use Rattle.parsimony.specs.Table.{Kind, symbol, handed, Node, leaf, inner, kidsOf, leafAt, nodeAt, isTip, names, tips, rowUses, childUses, TreeRules, SizeRules}
+use Rattle.parsimony.specs.Table.{Kind, symbol, handed, Node, leaf, inner, kidsOf, nodeAt, isTip, names, tips, rowUses, childUses, TreeRules, SizeRules}
 use Rattle.parsimony.specs.Test.{at}
 use Rattle.parsimony.specs.Tree.{Has, each, uses}
-use Rattle.parsimony.proofs.Order.{by-lt, by-eq, pick-true, pick-false, at-same, at-other}
+use Rattle.parsimony.proofs.NodeLaws.{node-symbol, node-handed, node-inner}
+use Rattle.parsimony.proofs.Order.{by-lt, by-eq, at-same, at-other}
 use Rattle.parsimony.proofs.ShapeLaws.{row-within, rules-odd}
 use Rattle.parsimony.proofs.Sums.{sum-same, sum-le, sum-swap, sum-scale, sum-before, sum-at}
 use Rattle.parsimony.proofs.TipLaws.{sum-ones, names-own, rows-in}
@@ -68,14 +68,9 @@ Small (inner a b) = a < 65535
 -- a node is read from its entries
 node-code : (left right : List ℕ) (i : ℕ) (x : Node) → Small x → getD left i 0 ≡ leftEntry x → getD right i 0 ≡ rightEntry x
     → nodeAt left right i ≡ x
-unfolding nodeAt leafAt
-node-code left right i (leaf symbol r) small e f =
-    pick-true _ _ (eq-eqb _ 65535 e) ∙ ap leafAt f ∙ pick-true _ _ (lt-ltb r 32768 small)
-node-code left right i (leaf handed k) small e f =
-    pick-true _ _ (eq-eqb _ 65535 e) ∙ ap leafAt f ∙ pick-false _ _ (le-ltb (32768 + k) 32768 (omega arith))
-    ∙ ap (leaf handed) (omega arith)
-node-code left right i (inner a b) small e f =
-    pick-false _ _ (ne-eqb (getD left i 0) 65535 (λ (p : getD left i 0 ≡ 65535). omega (arith, e))) ∙ ap₂ inner e f
+node-code left right i (leaf symbol r) small e f = node-symbol left right i r small e f
+node-code left right i (leaf handed k) small e f = node-handed left right i k e f
+node-code left right i (inner a b) small e f = node-inner left right i a b small e f
 
 module _ (I : Input) (rules : All (tableRules I [])) (K : Choice) (top : ℕ) (stands : Stands I K top) where
   abbrev n : ℕ

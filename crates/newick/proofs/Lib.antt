@@ -6,3 +6,5 @@ pub mod TreeSteps
 pub mod SizeLaws
 pub mod PairSteps
 pub mod LineSteps
+pub mod TableLaws
+pub mod OnceLaws

@@ -53,7 +53,7 @@ module _ (marks : List ℕ) (is : IsMarks marks) where
   met-few = let most = met-most marks (is .small) in let long = is .long in omega arith
 
   module _ (r : ℕ) (low : r < 512) (free : isMarked marks r ≡ false) where
-    open-mark : getD marks r 0 ≡ 0
+    pub open-mark : getD marks r 0 ≡ 0
     unfolding isMarked
     open-mark = let ne = eqb-false (getD marks r 0) 1 free in let small = is .small r in
         by-eq (getD marks r 0) 1 (λ e. absurd (ne e)) (λ n. omega arith)

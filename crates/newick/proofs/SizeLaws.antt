@@ -52,7 +52,7 @@ pub record TipFrom (sheet names : List ℕ) (t : ℕ) (marks : List ℕ) (i : �
   pub after : e ≡ tokenEnd sheet i
   pub noted : marks' ≡ marked marks row
 
-got-same : {v w : Vine} {e f : ℕ} {m n : List ℕ} → got v e m ≡ got w f n → (v ≡ w) × (e ≡ f) × (m ≡ n)
+pub got-same : {v w : Vine} {e f : ℕ} {m n : List ℕ} → got v e m ≡ got w f n → (v ≡ w) × (e ≡ f) × (m ≡ n)
 got-same h = (cc, cc, cc)
 
 pub tip-from : (sheet names : List ℕ) (t : ℕ) (marks : List ℕ) (i : ℕ) (vine : Vine) (e : ℕ) (marks' : List ℕ)

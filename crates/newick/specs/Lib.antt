@@ -6,3 +6,4 @@ pub mod Marks
 pub mod Parse
 pub mod Nodes
 pub mod Reading
+pub mod Denotes

@@ -8,6 +8,7 @@ pub mod LeastLaws
 pub mod TreeLaws
 pub mod TipLaws
 pub mod ShapeLaws
+pub mod NodeLaws
 pub mod BarredLaws
 pub mod Slack
 pub mod RowLaws
