@@ -2,13 +2,13 @@
 -- Assumes nothing.
 use mathlib.Core.List.{List, [], _∷_}
 use mathlib.Core.Path.{_≡_, refl}
-use Prim.Native.Nat.{ℕ, _+_}
+use Prim.Native.Nat.{ℕ, zero, suc, _+_}
 use Prim.Native.String.{String}
 use lib.ListN.{length}
 use Rattle.lines.specs.Bytes.{bytes}
 use Rattle.newick.specs.Nodes.{lefts, rights}
 use Rattle.newick.specs.Parse.{Parsed, got, noTree, lineTree}
-use Rattle.newick.specs.Vine.{Vine, tip, pair}
+use Rattle.newick.specs.Vine.{Vine, tip, pair, deep}
 
 -- the tree that a text denotes, over the names a, b and ab, which stand at places 0, 2 and 4
 abbrev Read : Type 0
@@ -80,3 +80,17 @@ case-lefts = refl
 case-rights : rights (pair (pair (tip 0) (tip 1)) (tip 2)) 0 ≡ 0 ∷ 1 ∷ 1 ∷ 2 ∷ 3 ∷ []
 unfolding rights
 case-rights = refl
+
+-- a comb over the rows 0 to n
+unfoldable comb : ℕ → Vine
+comb zero = tip 0
+comb (suc n) = pair (comb n) (tip (suc n))
+
+-- a comb of 129 names nests 128 deep, one of 130 names 129 deep
+case-comb : deep (comb 128) ≡ 128
+unfolding comb deep
+case-comb = refl
+
+case-comb-over : deep (comb 129) ≡ 129
+unfolding comb deep
+case-comb-over = refl

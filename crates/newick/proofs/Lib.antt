@@ -8,3 +8,6 @@ pub mod PairSteps
 pub mod LineSteps
 pub mod TableLaws
 pub mod OnceLaws
+pub mod NameLaws
+pub mod DenoteLaws
+pub mod TreeText

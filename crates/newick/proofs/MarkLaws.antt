@@ -22,18 +22,19 @@ pub unmarked-met : met (unmarked 512) ≡ 0
 unfolding unmarked
 unmarked-met = met-none 512
 
+pub unmarked-row : (r : ℕ) → getD (unmarked 512) r 0 ≡ 0
+unfolding unmarked
+unmarked-row r =
+    let none : ℕ = 0 in
+    let long : length (replicate 512 none) ≡ 512 = length-replicate 512 none in
+    by-lt r 512 (λ h. getD-replicate 512 r none none h)
+    (λ h. let over : length (replicate 512 none) ≤ r = omega arith in List·getD-eq-default (replicate 512 none) none over)
+
 pub unmarked-marks : IsMarks (unmarked 512)
 unfolding unmarked
 unmarked-marks =
     let none : ℕ = 0 in
-    let long : length (replicate 512 none) ≡ 512 = length-replicate 512 none in
-    record {
-      long = long;
-      small = λ r. by-lt r 512
-          (λ h. let z : getD (replicate 512 none) r 0 ≡ 0 = getD-replicate 512 r none none h in omega arith)
-          (λ h. let over : length (replicate 512 none) ≤ r = omega arith in
-          let z : getD (replicate 512 none) r 0 ≡ 0 = List·getD-eq-default (replicate 512 none) none over in omega arith);
-    }
+    record { long = length-replicate 512 none; small = λ r. let z = unmarked-row r in omega arith }
 
 -- a store of 1 over 0 adds one
 met-set : (marks : List ℕ) (r : ℕ) → r < length marks → getD marks r 0 ≡ 0 → met (set marks r 1) ≡ met marks + 1

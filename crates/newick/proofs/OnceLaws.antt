@@ -7,21 +7,21 @@ use mathlib.Core.Path.{_≡_, refl, ap, sym, _∙_, subst}
 use Prim.Native.Char.{code}
 use Prim.Native.Nat.{ℕ, zero, suc, _+_, _*_, _≤_, _<_}
 use native.Mathlib.Omega.{arith}
-use borrow.Author.Tests.{eqb-true, eqb-false}
+use borrow.Author.Tests.{eqb-true}
 use lib.Dec.{eqb}
 use lib.ListN.{length, getD, set}
 use lib.Seq.{getD-set-same, getD-set-other}
 use Rattle.parsimony.specs.Sum.{sum}
 use Rattle.parsimony.specs.Test.{at, pick, both}
 use Rattle.parsimony.proofs.Order.{by-eq, pick-true, pick-false, at-same, at-other}
-use Rattle.parsimony.proofs.Sums.{sum-add, sum-at, sum-same, sum-tight}
+use Rattle.parsimony.proofs.Sums.{sum-add, sum-at, sum-tight}
 use Rattle.parsimony.proofs.TipLaws.{sum-ones}
-use Rattle.newick.specs.Marks.{unmarked, isMarked, marked, IsMarks}
-use Rattle.newick.specs.Parse.{Parsed, got, noTree, onParsed, onByte, tipOf, pairBy, treeBy, pairOf, treeOf, lineTree}
+use Rattle.newick.specs.Marks.{unmarked, marked, IsMarks}
+use Rattle.newick.specs.Parse.{Parsed, got, noTree, tipOf, pairBy, treeBy, pairOf, treeOf, lineTree}
 use Rattle.newick.specs.Token.{tokenEnd}
 use Rattle.newick.specs.Vine.{Vine, tip, pair, size, occurs}
 use Rattle.newick.proofs.MarkLaws.{unmarked-marks, open-mark}
-use Rattle.newick.proofs.SizeLaws.{none-got, got-same, on-parsed, on-byte, tip-from, pair-from, tree-from, tree-of-sized, tip-sized, Sized}
+use Rattle.newick.proofs.SizeLaws.{none-got, got-same, on-parsed, on-byte, tip-from, pair-from, tree-from, tip-sized}
 use Rattle.newick.proofs.TableLaws.{Rows, size-tip, size-pair, vine-legal, vine-tips, vine-handed}
 use Rattle.newick.specs.Nodes.{lefts, rights}
 use Rattle.parsimony.specs.Table.{symbol, handed, nodeAt, tips, Legal}
@@ -97,7 +97,7 @@ module _ (sheet names : List ℕ) (t : ℕ) (few : t ≤ 512) (named : t ≤ len
   tree-of-once depth = tree-once (pairOf sheet names t depth) (pair-of-once depth)
 
 -- the names of a tree, counted row by row: half of its nodes and one
-rows-count : (t : ℕ) (vine : Vine) → Rows t vine → 2 * sum (λ r. occurs r vine) t ≡ size vine + 1
+pub rows-count : (t : ℕ) (vine : Vine) → Rows t vine → 2 * sum (λ r. occurs r vine) t ≡ size vine + 1
 unfolding occurs
 rows-count t (tip q) low =
     let one = sum-at (λ r. 1) t q low in

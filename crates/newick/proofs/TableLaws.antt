@@ -1,32 +1,14 @@
 -- The table of a tree as text is legal, where each name occurs once.
 -- Assumes nothing.
 use mathlib.Core.List.{List, [], _∷_, _++_}
-use mathlib.Core.Logic.{inl, inr, ⊎-elim}
-use mathlib.Core.Path.{_≡_, refl, ap, ap₂, sym, _∙_, subst}
-use Prim.Native.Nat.{ℕ, zero, suc, _+_, _*_, _-_, _%_, _≤_, _<_}
+use mathlib.Core.Logic.{⊎-elim}
+use mathlib.Core.Path.{_≡_, refl, ap, sym, _∙_, subst}
+use Prim.Native.Nat.{ℕ, zero, suc, _+_, _*_, _-_, _≤_, _<_}
 use native.Mathlib.Omega.{arith}
-use native.Mathlib.Nat.{add-assoc}
 use lib.ListN.{length, getD, List·getD-append}
 use lib.Seq.{getD-append-add}
 use Rattle.parsimony.specs.Sum.{sum}
-use Rattle.parsimony.specs.Table.{
-  Kind,
-  symbol,
-  handed,
-  Node,
-  leaf,
-  inner,
-  kidsOf,
-  nodeAt,
-  isTip,
-  names,
-  tips,
-  rowUses,
-  childUses,
-  TreeRules,
-  SizeRules,
-  Legal,
-}
+use Rattle.parsimony.specs.Table.{Kind, symbol, handed, Node, leaf, inner, kidsOf, nodeAt, isTip, names, tips, rowUses, TreeRules, Legal}
 use Rattle.parsimony.specs.Test.{at}
 use Rattle.parsimony.specs.Tree.{Has, each, uses}
 use Rattle.parsimony.proofs.NodeLaws.{node-symbol, node-inner}
@@ -265,24 +247,26 @@ module _ (left right : List ℕ) where
         stood-lists a n t ra few (omega arith)
             (λ i h. l i (omega arith) ∙ at-first (lefts a n) ll i (omega arith))
             (λ i h. s i (omega arith) ∙ at-first (rights a n) rr i (omega arith)),
-        (stood-lists b (n + size a) t rb few (omega arith)
-            (λ i h. (let place : n + size a + i ≡ n + (size a + i) = omega arith in ap (λ k. getD left k 0) place)
-            ∙ l (size a + i) (omega arith)
-            ∙ at-second (lefts a n) ll (size a) i (sym la)
-            ∙ at-first (lefts b (n + size a)) ((n + size a - 1) ∷ []) i (omega arith))
-            (λ i h. (let place : n + size a + i ≡ n + (size a + i) = omega arith in ap (λ k. getD right k 0) place)
-            ∙ s (size a + i) (omega arith)
-            ∙ at-second (rights a n) rr (size a) i (sym pa)
-            ∙ at-first (rights b (n + size a)) ((n + size a + size b - 1) ∷ []) i (omega arith)),
-        node-inner left right (n + size a + size b) (n + size a - 1) (n + size a + size b - 1) (omega arith)
-            ((let place : n + size a + size b ≡ n + (size a + (size b + 0)) = omega arith in ap (λ k. getD left k 0) place)
-            ∙ l (size a + (size b + 0)) (omega arith)
-            ∙ at-second (lefts a n) ll (size a) (size b + 0) (sym la)
-            ∙ at-second (lefts b (n + size a)) ((n + size a - 1) ∷ []) (size b) 0 (sym lb))
-            ((let place : n + size a + size b ≡ n + (size a + (size b + 0)) = omega arith in ap (λ k. getD right k 0) place)
-            ∙ s (size a + (size b + 0)) (omega arith)
-            ∙ at-second (rights a n) rr (size a) (size b + 0) (sym pa)
-            ∙ at-second (rights b (n + size a)) ((n + size a + size b - 1) ∷ []) (size b) 0 (sym pb))),
+        (
+          stood-lists b (n + size a) t rb few (omega arith)
+              (λ i h. (let place : n + size a + i ≡ n + (size a + i) = omega arith in ap (λ k. getD left k 0) place)
+              ∙ l (size a + i) (omega arith)
+              ∙ at-second (lefts a n) ll (size a) i (sym la)
+              ∙ at-first (lefts b (n + size a)) ((n + size a - 1) ∷ []) i (omega arith))
+              (λ i h. (let place : n + size a + i ≡ n + (size a + i) = omega arith in ap (λ k. getD right k 0) place)
+              ∙ s (size a + i) (omega arith)
+              ∙ at-second (rights a n) rr (size a) i (sym pa)
+              ∙ at-first (rights b (n + size a)) ((n + size a + size b - 1) ∷ []) i (omega arith)),
+          node-inner left right (n + size a + size b) (n + size a - 1) (n + size a + size b - 1) (omega arith)
+              ((let place : n + size a + size b ≡ n + (size a + (size b + 0)) = omega arith in ap (λ k. getD left k 0) place)
+              ∙ l (size a + (size b + 0)) (omega arith)
+              ∙ at-second (lefts a n) ll (size a) (size b + 0) (sym la)
+              ∙ at-second (lefts b (n + size a)) ((n + size a - 1) ∷ []) (size b) 0 (sym lb))
+              ((let place : n + size a + size b ≡ n + (size a + (size b + 0)) = omega arith in ap (λ k. getD right k 0) place)
+              ∙ s (size a + (size b + 0)) (omega arith)
+              ∙ at-second (rights a n) rr (size a) (size b + 0) (sym pa)
+              ∙ at-second (rights b (n + size a)) ((n + size a + size b - 1) ∷ []) (size b) 0 (sym pb)),
+        ),
       )
 
 -- The table of a tree with each of t names once is legal, and has t symbol tips and no handed tip.

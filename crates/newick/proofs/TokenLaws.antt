@@ -19,10 +19,10 @@ use Rattle.lines.specs.Word.{wordOf}
 use lib.Dec.{eqb}
 use Rattle.newick.specs.Token.{tokenIn, tokenEnd, isLineOf, findIn, rowOf}
 
-nowhere-at : {r : ℕ} → Nowhere ≡ At r → ⊥
+pub nowhere-at : {r : ℕ} → Nowhere ≡ At r → ⊥
 nowhere-at e = let z : _≡_ {A = ℕ} 0 1 = cc in omega arith
 
-at-same : {q r : ℕ} → At q ≡ At r → q ≡ r
+pub at-same : {q r : ℕ} → At q ≡ At r → q ≡ r
 at-same e = cc
 
 -- a name goes on over a byte that may stand in one

@@ -7,3 +7,4 @@ pub mod Parse
 pub mod Nodes
 pub mod Reading
 pub mod Denotes
+pub mod TreeLine
