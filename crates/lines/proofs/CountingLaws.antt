@@ -45,8 +45,7 @@ pub counting-read : {A : Type 0} (go : ℕ → ℕ → Section A) (count : Count
 unfolding counting
 counting-read go (Counted m from) n next e =
     let read = with-read m n next (go m from .part) e in
-    let same : m ≡ n = read .0 in
-    (
+    let same : m ≡ n = read .0 in (
       from,
       ap (λ k. Counted k from) same,
       subst (λ k. go k from .part ≡ Read next) same (read .1),

@@ -15,14 +15,16 @@ use Rattle.sections.specs.declared.reading.Reading.the-variants.{Sound, 
 -- what is read of a text
 pub read : String → Reading
 unfolding sheetOf
-read text = sheetOf (bytes text) .reading
+read text = sheetOf (bytes text) .rest .reading
 
 -- the paper's sheet: three tips, two columns, the cells at 24, the tree at 48 on line 11
 pub sheet-paper : sheetOf (bytes "names 3\na\nb\nc\ncolumns 2\nAC\nAT\nGT\ncosts 0\ntree 1\n((a,b),c);\n")
     ≡ record {
-      reading = Sound (record { tips = 3; columns = 2; cells = 24; tree = 48; line = 11 });
       names = 8 ∷ 10 ∷ 12 ∷ [];
-      costs = unitTable;
+      rest = record {
+        reading = Sound (record { tips = 3; columns = 2; cells = 24; tree = 48; line = 11 });
+        costs = unitTable;
+      };
     }
 unfolding sheetOf
 sheet-paper = refl
@@ -30,9 +32,11 @@ sheet-paper = refl
 -- four lines of costs, by the parent's state and then the child's
 pub sheet-costs : sheetOf (bytes "names 1\na\ncolumns 0\n\ncosts 4\n0 1 2 3\n4 0 5 6\n7 8 0 9\n10 11 999 0\ntree 1\na;\n")
     ≡ record {
-      reading = Sound (record { tips = 1; columns = 0; cells = 20; tree = 72; line = 11 });
       names = 8 ∷ [];
-      costs = (0 ∷ 1 ∷ 2 ∷ 3 ∷ []) ∷ (4 ∷ 0 ∷ 5 ∷ 6 ∷ []) ∷ (7 ∷ 8 ∷ 0 ∷ 9 ∷ []) ∷ (10 ∷ 11 ∷ 999 ∷ 0 ∷ []) ∷ [];
+      rest = record {
+        reading = Sound (record { tips = 1; columns = 0; cells = 20; tree = 72; line = 11 });
+        costs = (0 ∷ 1 ∷ 2 ∷ 3 ∷ []) ∷ (4 ∷ 0 ∷ 5 ∷ 6 ∷ []) ∷ (7 ∷ 8 ∷ 0 ∷ 9 ∷ []) ∷ (10 ∷ 11 ∷ 999 ∷ 0 ∷ []) ∷ [];
+      };
     }
 unfolding sheetOf
 sheet-costs = refl

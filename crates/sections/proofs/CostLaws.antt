@@ -12,7 +12,7 @@ use lib.ListN.{getD}
 use Rattle.parsimony.specs.Test.{pick}
 use Rattle.lines.specs.Bytes.{bytes}
 use Rattle.lines.specs.Count.{countOf}
-use Rattle.lines.specs.Counting.{onCount}
+use Rattle.lines.specs.Counting.{GivesCount, onCount}
 use Rattle.lines.specs.Number.{fieldOf, onNumber}
 use Rattle.lines.specs.Section.{Item, item, fault}
 use Rattle.lines.specs.declared.Count.{Count}
@@ -140,5 +140,8 @@ costs-count sheet at line k next e =
     let read = counting-read _ _ k next e in
     cost-count-is sheet at line k (read .0) (read .1)
 
-pub costs-most : (sheet : List ℕ) (at line k next : ℕ) → costsOf sheet at line .count ≡ Counted k next → k ≤ 4
-costs-most sheet at line k next e = ⊎-elim (λ z. omega arith) (λ z. omega arith) (costs-count sheet at line k next e)
+-- so it is at most 4, where the section's reader answers with it
+pub costs-few : (sheet : List ℕ) (at line : ℕ) {k next : ℕ} {answer : Count} {entry exit : List (List ℕ)}
+    → GivesCount (costsOf sheet at line) answer entry exit → answer ≡ Counted k next → k ≤ 4
+costs-few sheet at line {k} {next} gives e =
+    ⊎-elim (λ z. omega arith) (λ z. omega arith) (costs-count sheet at line k next (sym (gives .said) ∙ e))

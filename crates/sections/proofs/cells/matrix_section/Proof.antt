@@ -1,61 +1,54 @@
-use Rattle.sections.proofs.CellSteps.{matrix-no-count, matrix-fault, matrix-whole}
-use Rattle.lines.specs.Bytes.{bytes}
+-- `cells::matrix_section` meets its contract: the count line, and then a row for each name.
+-- Assumes nothing.
 use mathlib.Core.Path.{sym, _∙_}
-use native.Mathlib.Omega.{arith}
 use borrow.Author.Needs.{needs}
+use Rattle.lines.specs.Bytes.{bytes}
+use Rattle.sections.proofs.CellSteps.{matrix-no-count, matrix-fault, matrix-whole}
 use Rattle.sections.proofs.cells.matrix_section.Statement.{statement}
 use Rattle.sections.proofs.cells.matrix_section.Tie as tie
-use Rattle.sections.proofs.cells.matrix_section.Reads as reads
-use Rattle.sections.proofs.cells.matrix_section.Lts as lts
-use Rattle.lines.proofs.read_count.Reads as read-count-reads
-use Rattle.sections.proofs.cells.read_rows.Reads as read-rows-reads
 
--- src/cells.rt:95:39
 slice-aggregate-read-count : tie.Need-slice-aggregate-read-count
 slice-aggregate-read-count c = search needs
 
--- src/cells.rt:95:11
 read-count-requires : tie.Need-read-count-requires
 read-count-requires c κs = search needs
 
--- src/cells.rt:96:27
 enum-known-fault : tie.Need-enum-known-fault
 enum-known-fault c = search needs
 
--- src/cells.rt:97:24
 enum-known-c : tie.Need-enum-known-c
 enum-known-c c = search needs
 
--- src/cells.rt:97:73
 add-read-rows : tie.Need-add-read-rows
 add-read-rows c = search needs
 
--- src/cells.rt:97:43
 read-rows-requires : tie.Need-read-rows-requires
 read-rows-requires c κs = search needs
 
--- src/cells.rt:98:25
 enum-known-fault-2 : tie.Need-enum-known-fault-2
 enum-known-fault-2 c = search needs
 
--- src/cells.rt:99:24
 enum-known-next : tie.Need-enum-known-next
 enum-known-next c = search needs
 
--- src/cells.rt:91:1
 returns : tie.Need-returns
 unfolding bytes
-returns c = matrix-no-count _ _ _ _ _ (sym (c .before .before .before .read-count .ensures) ∙ c .before .fault .given .1)
+returns c =
+    matrix-no-count _ _ _ _ _ (sym (c .before .before .before .read-count .ensures) ∙ c .before .fault .given .1)
 
--- src/cells.rt:91:1
 returns-2 : tie.Need-returns-2
 unfolding bytes
-returns-2 c = matrix-fault _ _ _ _ _ _ (sym (c .before .before .before .before .before .before .before .read-count .ensures) ∙ c .before .before .before .before .before .c .given .1) _ (sym (c .before .before .before .read-rows .ensures) ∙ c .before .fault2 .given .1)
+returns-2 c =
+    matrix-fault _ _ _ _ _ _
+    (sym (c .before .before .before .before .before .before .before .read-count .ensures) ∙ c .before .before .before .before .before .c .given .1)
+    _ (sym (c .before .before .before .read-rows .ensures) ∙ c .before .fault2 .given .1)
 
--- src/cells.rt:91:1
 returns-3 : tie.Need-returns-3
 unfolding bytes
-returns-3 c = matrix-whole _ _ _ _ _ _ (sym (c .before .before .before .before .before .before .before .read-count .ensures) ∙ c .before .before .before .before .before .c .given .1) _ (sym (c .before .before .before .read-rows .ensures) ∙ c .before .next .given .1)
+returns-3 c =
+    matrix-whole _ _ _ _ _ _
+    (sym (c .before .before .before .before .before .before .before .read-count .ensures) ∙ c .before .before .before .before .before .c .given .1)
+    _ (sym (c .before .before .before .read-rows .ensures) ∙ c .before .next .given .1)
 
 pub matrix-section-spec : {M : Type 1} → statement M
 matrix-section-spec =

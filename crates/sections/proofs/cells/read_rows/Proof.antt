@@ -1,13 +1,11 @@
+-- `cells::read_rows` meets its contract. The invariant: i rows are read. The measure is the number of rows left.
+-- Assumes nothing.
+use Prim.Native.Nat.{_-_}
+use borrow.Author.Needs.{needs}
 use Rattle.lines.proofs.SectionLaws.{Passing, passing-start, passing-on, passing-stop, passing-end, placed-wrong, placed-read}
 use Rattle.sections.specs.Cells.{rowJudge}
-use Prim.Native.Nat.{_-_}
-use native.Mathlib.Omega.{arith}
-use borrow.Author.Needs.{needs}
 use Rattle.sections.proofs.cells.read_rows.Statement.{statement}
 use Rattle.sections.proofs.cells.read_rows.Tie as tie
-use Rattle.sections.proofs.cells.read_rows.Reads as reads
-use Rattle.sections.proofs.cells.read_rows.Lts as lts
-use Rattle.sections.proofs.cells.read_row.Reads as read-row-reads
 
 abbrev Inv-loop : tie.InvT-loop
 Inv-loop sheet t c at line i₀ place₀ number₀ i place number = Passing (rowJudge c sheet) t at line i place number
@@ -15,45 +13,41 @@ Inv-loop sheet t c at line i₀ place₀ number₀ i place number = Passing (row
 abbrev μ-loop : tie.MeasureT-loop
 μ-loop sheet t c at line i₀ place₀ number₀ i place number = t - i
 
--- src/cells.rt:75:5
 loop-holds : tie.Need-loop-holds Inv-loop μ-loop
 loop-holds c = passing-start
 
--- src/cells.rt:76:15
 read-row-requires : tie.Need-read-row-requires Inv-loop μ-loop
 read-row-requires c κs = search needs
 
--- src/cells.rt:77:25
 enum-known-fault : tie.Need-enum-known-fault Inv-loop μ-loop
 enum-known-fault c = search needs
 
--- src/cells.rt:78:17
 returns : tie.Need-returns Inv-loop μ-loop
 unfolding rowJudge
-returns c = passing-stop (c .before .before .before .before .before .loop .inv) _ (c .before .before .before .before .loop-test .taken) (λ before. placed-wrong _ _ _ (c .before .before .before .read-row .ensures) (c .before .fault .given .1))
+returns c =
+    passing-stop (c .before .before .before .before .before .loop .inv) _
+    (c .before .before .before .before .loop-test .taken)
+    (λ before. placed-wrong _ _ _ (c .before .before .before .read-row .ensures) (c .before .fault .given .1))
 
--- src/cells.rt:80:24
 enum-known-next : tie.Need-enum-known-next Inv-loop μ-loop
 enum-known-next c = search needs
 
--- src/cells.rt:84:9
 add-i : tie.Need-add-i Inv-loop μ-loop
 add-i c = search needs
 
--- src/cells.rt:85:9
 add-number : tie.Need-add-number Inv-loop μ-loop
 add-number c = search needs
 
--- src/cells.rt:75:5
 loop-less : tie.Need-loop-less Inv-loop μ-loop
 loop-less c = search needs
 
--- src/cells.rt:75:5
 loop-again : tie.Need-loop-again Inv-loop μ-loop
 unfolding rowJudge
-loop-again c = passing-on (c .before .before .before .before .before .loop .inv) _ _ (c .before .before .before .before .loop-test .taken) (λ before. placed-read _ _ _ (c .before .before .before .read-row .ensures) (c .before .next .given .1))
+loop-again c =
+    passing-on (c .before .before .before .before .before .loop .inv) _ _
+    (c .before .before .before .before .loop-test .taken)
+    (λ before. placed-read _ _ _ (c .before .before .before .read-row .ensures) (c .before .next .given .1))
 
--- src/cells.rt:68:1
 returns-2 : tie.Need-returns-2 Inv-loop μ-loop
 returns-2 c = passing-end (c .before .loop .inv) (c .loop-test .left)
 

@@ -1,49 +1,41 @@
+-- `costs::costs_section` meets its contract: the count line, and then the table.
+-- Assumes nothing.
+use mathlib.Core.Path.{sym, _∙_}
+use borrow.Author.Needs.{needs}
 use Rattle.lines.proofs.CountingLaws.{counting-none, counting-some}
 use Rattle.sections.specs.Costs.{costsOf}
-use mathlib.Core.Path.{sym, _∙_}
-use native.Mathlib.Omega.{arith}
-use borrow.Author.Needs.{needs}
 use Rattle.sections.proofs.costs.costs_section.Statement.{statement}
 use Rattle.sections.proofs.costs.costs_section.Tie as tie
-use Rattle.sections.proofs.costs.costs_section.Reads as reads
-use Rattle.sections.proofs.costs.costs_section.Lts as lts
-use Rattle.lines.proofs.with_count.Reads as with-count-reads
-use Rattle.sections.proofs.costs.read_cost_count.Reads as read-cost-count-reads
-use Rattle.sections.proofs.costs.read_table.Reads as read-table-reads
 
--- src/costs.rt:129:11
 read-cost-count-requires : tie.Need-read-cost-count-requires
 read-cost-count-requires c κs = search needs
 
--- src/costs.rt:130:27
 enum-known-fault : tie.Need-enum-known-fault
 enum-known-fault c = search needs
 
--- src/costs.rt:131:24
 enum-known-k : tie.Need-enum-known-k
 enum-known-k c = search needs
 
--- src/costs.rt:131:77
 add-read-table : tie.Need-add-read-table
 add-read-table c = search needs
 
--- src/costs.rt:131:50
 read-table-requires : tie.Need-read-table-requires
 read-table-requires c κs = search needs
 
--- src/costs.rt:131:36
 with-count-requires : tie.Need-with-count-requires
 with-count-requires c κs = search needs
 
--- src/costs.rt:125:1
 returns : tie.Need-returns
 unfolding costsOf
-returns c = counting-none _ _ _ _ (sym (c .before .before .before .read-cost-count .ensures) ∙ c .before .fault .given .1)
+returns c =
+    counting-none _ _ _ _ (sym (c .before .before .before .read-cost-count .ensures) ∙ c .before .fault .given .1)
 
--- src/costs.rt:125:1
 returns-2 : tie.Need-returns-2
 unfolding costsOf
-returns-2 c = counting-some _ _ _ _ _ _ _ _ (sym (c .before .before .before .before .before .before .read-cost-count .ensures) ∙ c .before .before .before .before .k .given .1) (c .before .read-table .ensures) (c .with-count .ensures)
+returns-2 c =
+    counting-some _ _ _ _ _ _ _ _
+    (sym (c .before .before .before .before .before .before .read-cost-count .ensures) ∙ c .before .before .before .before .k .given .1)
+    (c .before .read-table .ensures) (c .with-count .ensures)
 
 pub costs-section-spec : {M : Type 1} → statement M
 costs-section-spec =

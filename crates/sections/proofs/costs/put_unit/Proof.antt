@@ -1,28 +1,22 @@
-use Rattle.sections.proofs.CostSteps.{unit-written}
-use native.Mathlib.Omega.{arith}
+-- `costs::put_unit` meets its contract.
+-- Assumes nothing.
 use borrow.Author.Needs.{needs}
+use Rattle.sections.proofs.CostSteps.{unit-written}
 use Rattle.sections.proofs.costs.put_unit.Statement.{statement}
 use Rattle.sections.proofs.costs.put_unit.Tie as tie
-use Rattle.sections.proofs.costs.put_unit.Reads as reads
-use Rattle.sections.proofs.costs.put_unit.Lts as lts
 
--- src/costs.rt:89:5
 element-set-from-table : tie.Need-element-set-from-table
 element-set-from-table c = search needs
 
--- src/costs.rt:90:5
 element-set-from-table-2 : tie.Need-element-set-from-table-2
 element-set-from-table-2 c = search needs
 
--- src/costs.rt:91:5
 element-set-from-table-3 : tie.Need-element-set-from-table-3
 element-set-from-table-3 c = search needs
 
--- src/costs.rt:92:5
 element-set-from-table-4 : tie.Need-element-set-from-table-4
 element-set-from-table-4 c = search needs
 
--- src/costs.rt:85:1
 returns : tie.Need-returns
 returns c = unit-written _ (c .pre)
 

@@ -1,26 +1,19 @@
-use Rattle.sections.proofs.CostSteps.{table-none, table-four}
-use native.Mathlib.Omega.{arith}
+-- `costs::read_table` meets its contract, by the count.
+-- Assumes nothing.
 use borrow.Author.Needs.{needs}
+use Rattle.sections.proofs.CostSteps.{table-none, table-four}
 use Rattle.sections.proofs.costs.read_table.Statement.{statement}
 use Rattle.sections.proofs.costs.read_table.Tie as tie
-use Rattle.sections.proofs.costs.read_table.Reads as reads
-use Rattle.sections.proofs.costs.read_table.Lts as lts
-use Rattle.sections.proofs.costs.put_unit.Reads as put-unit-reads
-use Rattle.sections.proofs.costs.read_cost_rows.Reads as read-cost-rows-reads
 
--- src/costs.rt:101:9
 put-unit-requires : tie.Need-put-unit-requires
 put-unit-requires c κs = search needs
 
--- src/costs.rt:102:9
 returns : tie.Need-returns
 returns c = table-none _ _ _ _ (c .before .before .if1 .taken) (c .put-unit .ensures)
 
--- src/costs.rt:104:5
 read-cost-rows-requires : tie.Need-read-cost-rows-requires
 read-cost-rows-requires c κs = search needs
 
--- src/costs.rt:96:1
 returns-2 : tie.Need-returns-2
 returns-2 c = table-four _ _ _ _ (c .before .before .if1 .left) (c .read-cost-rows .ensures)
 
