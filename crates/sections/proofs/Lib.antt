@@ -1,5 +1,2 @@
 pub mod Cases
-pub mod CellSteps
-pub mod CostLaws
-pub mod CostSteps
 pub mod SheetSteps

@@ -11,13 +11,13 @@ use Rattle.lines.specs.declared.Count.{Count}
 use Rattle.lines.specs.declared.Count.the-variants.{Counted, Miscounted}
 use Rattle.lines.specs.declared.Fault.{Fault}
 use Rattle.names.specs.Names.{namesOf}
-use Rattle.sections.specs.Cells.{matrixOf}
-use Rattle.sections.specs.Costs.{costsOf}
+use Rattle.cells.specs.Cells.{matrixOf}
+use Rattle.costs.specs.Costs.{costsOf}
 use Rattle.sections.specs.Sheet.{GivesRest, GivesSheet, onMatrix, refused, treeFrom, costsFrom, columnsFrom, sheetOf}
-use Rattle.sections.specs.declared.cells.Matrix.{Matrix}
-use Rattle.sections.specs.declared.cells.Matrix.the-variants.{Cells, NoCells}
-use Rattle.sections.specs.declared.reading.Reading.{Reading}
-use Rattle.sections.specs.declared.reading.Reading.the-variants.{Sound, Faulty}
+use Rattle.cells.specs.declared.Matrix.{Matrix}
+use Rattle.cells.specs.declared.Matrix.the-variants.{Cells, NoCells}
+use Rattle.sections.specs.declared.Reading.{Reading}
+use Rattle.sections.specs.declared.Reading.the-variants.{Sound, Faulty}
 
 count-wrong {ℓ} : {A : Type ℓ} (count : Count) (f : Fault) (bad : Fault → A) (go : ℕ → ℕ → A) → count ≡ Miscounted f
     → onCount count bad go ≡ bad f

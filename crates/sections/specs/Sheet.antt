@@ -9,12 +9,12 @@ use Rattle.lines.specs.Counting.{Counting, onCount}
 use Rattle.lines.specs.Section.{wrote}
 use Rattle.lines.specs.declared.Fault.{Fault}
 use Rattle.names.specs.Names.{namesOf}
-use Rattle.sections.specs.Cells.{matrixOf}
-use Rattle.sections.specs.Costs.{costsOf}
-use Rattle.sections.specs.declared.cells.Matrix.{Matrix}
-use Rattle.sections.specs.declared.cells.Matrix.the-variants.{Cells, NoCells}
-use Rattle.sections.specs.declared.reading.Reading.{Reading}
-use Rattle.sections.specs.declared.reading.Reading.the-variants.{Sound, Faulty}
+use Rattle.cells.specs.Cells.{matrixOf}
+use Rattle.costs.specs.Costs.{costsOf}
+use Rattle.cells.specs.declared.Matrix.{Matrix}
+use Rattle.cells.specs.declared.Matrix.the-variants.{Cells, NoCells}
+use Rattle.sections.specs.declared.Reading.{Reading}
+use Rattle.sections.specs.declared.Reading.the-variants.{Sound, Faulty}
 
 -- what the sheet from some section on gives: the answer, and the rows of its cost table up to the first fault
 pub record Rest : Type 0 where

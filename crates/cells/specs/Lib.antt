@@ -1,0 +1,3 @@
+-- The section of the columns.
+-- Assumes nothing.
+pub mod Cells
