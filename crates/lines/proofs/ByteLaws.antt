@@ -28,7 +28,8 @@ test-yes {r} e n = sym e ∙ not-false r n
 pub test-no : {r b : Bool} → r ≡ b → not r ≡ true → b ≡ false
 test-no {r} e n = sym e ∙ not-true r n
 
-both-true : (a b : Bool) → both a b ≡ true → (a ≡ true) × (b ≡ true)
+-- two tests in one
+pub both-true : (a b : Bool) → both a b ≡ true → (a ≡ true) × (b ≡ true)
 unfolding both
 both-true true b e = (refl, e)
 both-true false true e = (e, refl)

@@ -3,8 +3,10 @@ pub mod Cases
 pub mod CountLaws
 pub mod CountSteps
 pub mod CountingLaws
+pub mod EveryLaws
 pub mod LineLaws
 pub mod LineSteps
 pub mod NumberSteps
 pub mod SectionLaws
+pub mod SectionReads
 pub mod WordSteps
