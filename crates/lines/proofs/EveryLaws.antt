@@ -44,3 +44,24 @@ module _ (f : ℕ → Bool) (sheet : List ℕ) (end : ℕ) (l : end ≤ length s
   pub every-found : (i : ℕ) → ((k : ℕ) → i ≤ k → k < end → f (getD sheet k 0) ≡ true)
       → every f (textOf sheet i end) ≡ true
   every-found i all = found-by end i (omega arith) all
+
+  not-by : (n i : ℕ) → end ≤ i + n → every f (textOf sheet i end) ≡ false
+      → (k : ℕ) × (i ≤ k) × (k < end) × (f (getD sheet k 0) ≡ false)
+  not-by zero i room e = no-test (sym e ∙ sym (every-end f sheet i end l (omega arith)))
+  not-by (suc n) i room e =
+      by-lt i end (λ h. by-test h (not-by n (i + 1) (omega arith)) (f (getD sheet i 0)) refl)
+      (λ h. no-test (sym e ∙ sym (every-end f sheet i end l h)))
+    where
+      by-test : i < end
+          → (every f (textOf sheet (i + 1) end) ≡ false
+          → (k : ℕ) × (i + 1 ≤ k) × (k < end) × (f (getD sheet k 0) ≡ false))
+          → (b : Bool) → f (getD sheet i 0) ≡ b → (k : ℕ) × (i ≤ k) × (k < end) × (f (getD sheet k 0) ≡ false)
+      by-test h rest true t =
+          let r = rest (every-on f sheet i end l h t ∙ e) in
+          (r .0, omega (arith, r .1), r .2, r .3)
+      by-test h rest false t = (i, omega arith, h, t)
+
+  -- it does not hold of some byte, where it does not hold
+  pub every-not : (i : ℕ) → every f (textOf sheet i end) ≡ false
+      → (k : ℕ) × (i ≤ k) × (k < end) × (f (getD sheet k 0) ≡ false)
+  every-not i e = not-by end i (omega arith) e
