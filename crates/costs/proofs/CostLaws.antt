@@ -41,7 +41,7 @@ same-count : {n i k next : ℕ} → Counted n i ≡ Counted k next → n ≡ k
 same-count e = cc
 
 -- four costs of at most 999, of which the x-th is 0
-four-costs : (x a b c d : ℕ) → a ≤ 999 → b ≤ 999 → c ≤ 999 → d ≤ 999 → getD (a ∷ b ∷ c ∷ d ∷ []) x 0 ≡ 0
+pub four-costs : (x a b c d : ℕ) → a ≤ 999 → b ≤ 999 → c ≤ 999 → d ≤ 999 → getD (a ∷ b ∷ c ∷ d ∷ []) x 0 ≡ 0
     → RowRules x (a ∷ b ∷ c ∷ d ∷ [])
 four-costs x a b c d ha hb hc hd stay = record { size = refl; cheap = cheap; stay = stay }
   where

@@ -1,3 +1,4 @@
 -- The sheet up to its tree line.
 -- Assumes nothing.
 pub mod Sheet
+pub mod SheetRead
