@@ -98,8 +98,8 @@ module _ (sheet : List ℕ) (c at line : ℕ) where
           (record {
             line = subst (IsLine sheet at) here whole;
             listed = λ j h.
-              symbol-told (getD sheet (at + j) 0)
-              (every-told isSymbol sheet end (omega arith) at e (at + j) (omega arith) (omega arith));
+                symbol-told (getD sheet (at + j) 0)
+                (every-told isSymbol sheet end (omega arith) at e (at + j) (omega arith) (omega arith));
           }))
       by-every end whole l t false e =
           let from = whole .from in
@@ -159,8 +159,7 @@ module _ (sheet : List ℕ) (c : ℕ) where
           → (next ≡ rowAt at c (suc n)) × ((r : ℕ) → r < suc n → IsRow sheet c (rowAt at c r))
       by-row (sound i here row) rest h =
           let r = rest i (before ++ at ∷ []) h in
-          let last = r .0 in
-          (
+          let last = r .0 in (
             omega (arith, suc-mul n (c + 1)),
             all-rows n at row (subst (λ p. (k : ℕ) → k < n → IsRow sheet c (rowAt p c k)) here (r .1)),
           )
@@ -185,7 +184,7 @@ module _ (sheet : List ℕ) (c : ℕ) where
             few = omega arith;
             before = all-rows k at row (subst (λ p. (r : ℕ) → r < k → IsRow sheet c (rowAt p c r)) here (first .before));
             wrong = subst (λ p. RowFault sheet c p (line + suc k) f) place
-              (subst (λ l. RowFault sheet c (rowAt i c k) l f) number (first .wrong));
+                (subst (λ l. RowFault sheet c (rowAt i c k) l f) number (first .wrong));
           }
 
       by-row : {x : Item ℕ} → RowIs sheet c at line x
@@ -203,7 +202,7 @@ module _ (sheet : List ℕ) (c : ℕ) where
             few = omega arith;
             before = λ r l. absurd (omega arith);
             wrong = subst (λ p. RowFault sheet c p (line + 0) f) place
-              (subst (λ l. RowFault sheet c at l f) number (subst (RowFault sheet c at line) same w));
+                (subst (λ l. RowFault sheet c at l f) number (subst (RowFault sheet c at line) same w));
           }
 
 -- the section of the columns that is read: the columns are at most 65,535, and row r, column j stands at its place

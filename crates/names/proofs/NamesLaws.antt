@@ -119,14 +119,14 @@ module _ (sheet : List ℕ) (n at line : ℕ) where
   names-all =
       record {
         named = λ i h.
-          let read = read-at i h in
-          (read .end, name-line-told sheet _ _ (line-read sheet _ _ (read .ends)) (read .name));
+            let read = read-at i h in
+            (read .end, name-line-told sheet _ _ (line-read sheet _ _ (read .ends)) (read .name));
         different = λ i j low high end last one two same.
-          let read = read-at j high in
-          let size = length-take-le j places (omega arith) in
-          let told = new-told sheet (take j places) _ (read .new) i (omega arith) in
-          let here = getD-take j places i 0 low in
-          no-test (sym (rw here at told) ∙ same-found sheet _ end _ last one two same);
+            let read = read-at j high in
+            let size = length-take-le j places (omega arith) in
+            let told = new-told sheet (take j places) _ (read .new) i (omega arith) in
+            let here = getD-take j places i 0 low in
+            no-test (sym (rw here at told) ∙ same-found sheet _ end _ last one two same);
       }
 
 -- the section of the names, read: t names, all well formed and all different
@@ -136,8 +136,7 @@ unfolding namesOf
 names-read sheet at line t next e =
     let count = countOf (bytes "names ") 1 512 sheet at line in
     let read = counting-read (λ n i. section (nameOf sheet) n i (line + 1) []) count t next e in
-    let size = section-size (nameOf sheet) t (read .0) (line + 1) next [] (read .2) in
-    (
+    let size = section-size (nameOf sheet) t (read .0) (line + 1) next [] (read .2) in (
       rw (read .3) (omega (arith, size)),
       rw (read .3) (names-all sheet t (read .0) (line + 1)),
     )
@@ -149,9 +148,9 @@ pub record FirstWrong (sheet names : List ℕ) (n line : ℕ) (f : Fault) : Type
   pub carried : f ≡ Sheet (line + length names)
   pub place : ℕ
   pub wrong : (end : ℕ) → IsNameLine sheet place end
-    → ((i last : ℕ) → i < length names → IsLine sheet (getD names i 0) last
-    → SameLine sheet (getD names i 0) last place end → ⊥)
-    → ⊥
+      → ((i last : ℕ) → i < length names → IsLine sheet (getD names i 0) last
+      → SameLine sheet (getD names i 0) last place end → ⊥)
+      → ⊥
 
 -- the names, refused: the first line at fault is no name, or is an earlier one
 pub names-refused : (sheet : List ℕ) (n at line : ℕ) (f : Fault) → section (nameOf sheet) n at line [] .part ≡ Wrong f
@@ -164,11 +163,11 @@ names-refused sheet n at line f e =
       carried = name-fault sheet _ (failed .place) (line + length names) f (failed .unfair);
       place = failed .place;
       wrong = λ end name different.
-        let ends = line-found sheet (failed .place) end (name .line) in
-        let is-name = name-line-found sheet (failed .place) end name in
-        let is-new = new-found sheet names (failed .place) (λ k h. old (failed .place) end name different k h) in
-        no-item refl
-        (sym (name-whole sheet names (failed .place) (line + length names) end ends is-name is-new ∙ failed .unfair));
+          let ends = line-found sheet (failed .place) end (name .line) in
+          let is-name = name-line-found sheet (failed .place) end name in
+          let is-new = new-found sheet names (failed .place) (λ k h. old (failed .place) end name different k h) in
+          no-item refl
+          (sym (name-whole sheet names (failed .place) (line + length names) end ends is-name is-new ∙ failed .unfair));
     }
   where
     names : List ℕ

@@ -93,9 +93,9 @@ rest-same sheet a end b last same =
     record {
       size = omega (arith, same .size);
       bytes = λ k low.
-        let left : a + 1 + k ≡ a + (k + 1) = omega arith in
-        let right : b + 1 + k ≡ b + (k + 1) = omega arith in
-        rw (left, right) (same .bytes (k + 1) (omega arith));
+          let left : a + 1 + k ≡ a + (k + 1) = omega arith in
+          let right : b + 1 + k ≡ b + (k + 1) = omega arith in
+          rw (left, right) (same .bytes (k + 1) (omega arith));
     }
 
 found-step : (sheet : List ℕ) (a end b last : ℕ) → IsLine sheet a end → IsLine sheet b last → SameLine sheet a end b last

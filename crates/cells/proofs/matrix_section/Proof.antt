@@ -39,16 +39,20 @@ returns c =
 returns-2 : tie.Need-returns-2
 unfolding bytes
 returns-2 c =
-    matrix-fault _ _ _ _ _ _
-    (sym (c .before .before .before .before .before .before .before .read-count .ensures) ∙ c .before .before .before .before .before .c .given .1)
-    _ (sym (c .before .before .before .read-rows .ensures) ∙ c .before .fault2 .given .1)
+    let at-read-rows = c .before .before .before in
+    let at-c = at-read-rows .before .before in
+    let at-read-count = at-c .before .before in
+    matrix-fault _ _ _ _ _ _ (sym (at-read-count .read-count .ensures) ∙ at-c .c .given .1) _
+    (sym (at-read-rows .read-rows .ensures) ∙ c .before .fault2 .given .1)
 
 returns-3 : tie.Need-returns-3
 unfolding bytes
 returns-3 c =
-    matrix-whole _ _ _ _ _ _
-    (sym (c .before .before .before .before .before .before .before .read-count .ensures) ∙ c .before .before .before .before .before .c .given .1)
-    _ (sym (c .before .before .before .read-rows .ensures) ∙ c .before .next .given .1)
+    let at-read-rows = c .before .before .before in
+    let at-c = at-read-rows .before .before in
+    let at-read-count = at-c .before .before in
+    matrix-whole _ _ _ _ _ _ (sym (at-read-count .read-count .ensures) ∙ at-c .c .given .1) _
+    (sym (at-read-rows .read-rows .ensures) ∙ c .before .next .given .1)
 
 pub matrix-section-spec : {M : Type 1} → statement M
 matrix-section-spec =

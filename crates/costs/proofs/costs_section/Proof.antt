@@ -33,8 +33,9 @@ returns c =
 returns-2 : tie.Need-returns-2
 unfolding costsOf
 returns-2 c =
-    counting-some _ _ _ _ _ _ _ _
-    (sym (c .before .before .before .before .before .before .read-cost-count .ensures) ∙ c .before .before .before .before .k .given .1)
+    let at-k = c .before .before .before .before in
+    let at-read-cost-count = at-k .before .before in
+    counting-some _ _ _ _ _ _ _ _ (sym (at-read-cost-count .read-cost-count .ensures) ∙ at-k .k .given .1)
     (c .before .read-table .ensures) (c .with-count .ensures)
 
 pub costs-section-spec : {M : Type 1} → statement M

@@ -32,8 +32,12 @@ enum-told-2 c = search needs
 returns-2 : tie.Need-returns-2
 unfolding costItem costRowOf
 returns-2 c =
-    rw
-    ((sym (c .before .before .before .before .before .before .field-at .ensures) ∙ c .before .before .before .before .a .given .1), (sym (c .before .before .field-at2 .ensures) ∙ c .enum-told2 .given .1))
+    let at-a = c .before .before .before .before in
+    let at-field-at = at-a .before .before in
+    rw (
+      (sym (at-field-at .field-at .ensures) ∙ at-a .a .given .1),
+      (sym (c .before .before .field-at2 .ensures) ∙ c .enum-told2 .given .1),
+    )
 
 field-at-requires-3 : tie.Need-field-at-requires-3
 field-at-requires-3 c κs = search needs
@@ -47,8 +51,15 @@ enum-told-3 c = search needs
 returns-3 : tie.Need-returns-3
 unfolding costItem costRowOf
 returns-3 c =
-    rw
-    ((sym (c .before .before .before .before .before .before .before .before .before .before .field-at .ensures) ∙ c .before .before .before .before .before .before .before .before .a .given .1), (sym (c .before .before .before .before .before .before .field-at2 .ensures) ∙ c .before .before .before .before .b .given .1), (sym (c .before .before .field-at3 .ensures) ∙ c .enum-told3 .given .1))
+    let at-b = c .before .before .before .before in
+    let at-field-at2 = at-b .before .before in
+    let at-a = at-field-at2 .before .before in
+    let at-field-at = at-a .before .before in
+    rw (
+      (sym (at-field-at .field-at .ensures) ∙ at-a .a .given .1),
+      (sym (at-field-at2 .field-at2 .ensures) ∙ at-b .b .given .1),
+      (sym (c .before .before .field-at3 .ensures) ∙ c .enum-told3 .given .1),
+    )
 
 field-at-requires-4 : tie.Need-field-at-requires-4
 field-at-requires-4 c κs = search needs
@@ -62,8 +73,18 @@ enum-told-4 c = search needs
 returns-4 : tie.Need-returns-4
 unfolding costItem costRowOf
 returns-4 c =
-    rw
-    ((sym (c .before .before .before .before .before .before .before .before .before .before .before .before .before .before .field-at .ensures) ∙ c .before .before .before .before .before .before .before .before .before .before .before .before .a .given .1), (sym (c .before .before .before .before .before .before .before .before .before .before .field-at2 .ensures) ∙ c .before .before .before .before .before .before .before .before .b .given .1), (sym (c .before .before .before .before .before .before .field-at3 .ensures) ∙ c .before .before .before .before .c .given .1), (sym (c .before .before .field-at4 .ensures) ∙ c .enum-told4 .given .1))
+    let at-c = c .before .before .before .before in
+    let at-field-at3 = at-c .before .before in
+    let at-b = at-field-at3 .before .before in
+    let at-field-at2 = at-b .before .before in
+    let at-a = at-field-at2 .before .before in
+    let at-field-at = at-a .before .before in
+    rw (
+      (sym (at-field-at .field-at .ensures) ∙ at-a .a .given .1),
+      (sym (at-field-at2 .field-at2 .ensures) ∙ at-b .b .given .1),
+      (sym (at-field-at3 .field-at3 .ensures) ∙ at-c .c .given .1),
+      (sym (c .before .before .field-at4 .ensures) ∙ c .enum-told4 .given .1),
+    )
 
 mul-if1 : tie.Need-mul-if1
 mul-if1 c = search needs
@@ -74,14 +95,38 @@ array-read-if1 c = search needs
 returns-5 : tie.Need-returns-5
 unfolding costItem costRowOf
 returns-5 c =
-    rw
-    ((sym (c .before .before .before .before .before .before .before .before .before .before .before .before .before .before .before .before .field-at .ensures) ∙ c .before .before .before .before .before .before .before .before .before .before .before .before .before .before .a .given .1), (sym (c .before .before .before .before .before .before .before .before .before .before .before .before .field-at2 .ensures) ∙ c .before .before .before .before .before .before .before .before .before .before .b .given .1), (sym (c .before .before .before .before .before .before .before .before .field-at3 .ensures) ∙ c .before .before .before .before .before .before .c .given .1), (sym (c .before .before .before .before .field-at4 .ensures) ∙ c .before .before .d .given .1), ne-eqb _ _ (c .if1 .taken))
+    let at-field-at4 = c .before .before .before .before in
+    let at-c = at-field-at4 .before .before in
+    let at-field-at3 = at-c .before .before in
+    let at-b = at-field-at3 .before .before in
+    let at-field-at2 = at-b .before .before in
+    let at-a = at-field-at2 .before .before in
+    let at-field-at = at-a .before .before in
+    rw (
+      (sym (at-field-at .field-at .ensures) ∙ at-a .a .given .1),
+      (sym (at-field-at2 .field-at2 .ensures) ∙ at-b .b .given .1),
+      (sym (at-field-at3 .field-at3 .ensures) ∙ at-c .c .given .1),
+      (sym (at-field-at4 .field-at4 .ensures) ∙ c .before .before .d .given .1),
+      ne-eqb _ _ (c .if1 .taken),
+    )
 
 returns-6 : tie.Need-returns-6
 unfolding costItem costRowOf
 returns-6 c =
-    rw
-    ((sym (c .before .before .before .before .before .before .before .before .before .before .before .before .before .before .before .before .field-at .ensures) ∙ c .before .before .before .before .before .before .before .before .before .before .before .before .before .before .a .given .1), (sym (c .before .before .before .before .before .before .before .before .before .before .before .before .field-at2 .ensures) ∙ c .before .before .before .before .before .before .before .before .before .before .b .given .1), (sym (c .before .before .before .before .before .before .before .before .field-at3 .ensures) ∙ c .before .before .before .before .before .before .c .given .1), (sym (c .before .before .before .before .field-at4 .ensures) ∙ c .before .before .d .given .1), eq-eqb _ _ (c .if1 .left))
+    let at-field-at4 = c .before .before .before .before in
+    let at-c = at-field-at4 .before .before in
+    let at-field-at3 = at-c .before .before in
+    let at-b = at-field-at3 .before .before in
+    let at-field-at2 = at-b .before .before in
+    let at-a = at-field-at2 .before .before in
+    let at-field-at = at-a .before .before in
+    rw (
+      (sym (at-field-at .field-at .ensures) ∙ at-a .a .given .1),
+      (sym (at-field-at2 .field-at2 .ensures) ∙ at-b .b .given .1),
+      (sym (at-field-at3 .field-at3 .ensures) ∙ at-c .c .given .1),
+      (sym (at-field-at4 .field-at4 .ensures) ∙ c .before .before .d .given .1),
+      eq-eqb _ _ (c .if1 .left),
+    )
 
 pub read-cost-row-spec : {M : Type 1} → statement M
 read-cost-row-spec =

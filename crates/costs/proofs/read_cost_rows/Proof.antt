@@ -30,9 +30,12 @@ enum-known-fault c = search needs
 
 returns : tie.Need-returns Inv-loop μ-loop
 returns c =
-    going-stop (c .before .before .before .before .before .loop .inv) _
-    (c .before .before .before .before .loop-test .taken)
-    (cost-wrong _ _ _ _ _ _ (going-taken (c .before .before .before .before .before .loop .inv) (c .before .before .before .before .loop-test .taken)) (c .before .before .before .read-cost-row .ensures) _ (c .before .fault .given .1))
+    let at-read-cost-row = c .before .before .before in
+    let at-loop-test = at-read-cost-row .before in
+    let at-loop = at-loop-test .before in
+    going-stop (at-loop .loop .inv) _ (at-loop-test .loop-test .taken)
+    (cost-wrong _ _ _ _ _ _ (going-taken (at-loop .loop .inv) (at-loop-test .loop-test .taken))
+    (at-read-cost-row .read-cost-row .ensures) _ (c .before .fault .given .1))
 
 enum-known-a : tie.Need-enum-known-a Inv-loop μ-loop
 enum-known-a c = search needs
@@ -40,25 +43,39 @@ enum-known-a c = search needs
 narrow-requires : tie.Need-narrow-requires Inv-loop μ-loop
 unfolding costItem
 narrow-requires c κs =
-    let rules = cost-row-rules _ _ _ _ _ _ (sym (c .before .before .before .read-cost-row .ensures) ∙ ap costItem (c .before .a .given .1)) in
+    let at-read-cost-row = c .before .before .before in
+    let rules =
+    cost-row-rules _ _ _ _ _ _
+    (sym (at-read-cost-row .read-cost-row .ensures) ∙ ap costItem (c .before .a .given .1)) in
     omega (arith, rules .cheap 0)
 
 narrow-requires-2 : tie.Need-narrow-requires-2 Inv-loop μ-loop
 unfolding costItem
 narrow-requires-2 c κs =
-    let rules = cost-row-rules _ _ _ _ _ _ (sym (c .before .before .before .before .read-cost-row .ensures) ∙ ap costItem (c .before .before .a .given .1)) in
+    let at-read-cost-row = c .before .before .before .before in
+    let rules =
+    cost-row-rules _ _ _ _ _ _
+    (sym (at-read-cost-row .read-cost-row .ensures) ∙ ap costItem (c .before .before .a .given .1)) in
     omega (arith, rules .cheap 1)
 
 narrow-requires-3 : tie.Need-narrow-requires-3 Inv-loop μ-loop
 unfolding costItem
 narrow-requires-3 c κs =
-    let rules = cost-row-rules _ _ _ _ _ _ (sym (c .before .before .before .before .before .read-cost-row .ensures) ∙ ap costItem (c .before .before .before .a .given .1)) in
+    let at-a = c .before .before .before in
+    let at-read-cost-row = at-a .before .before in
+    let rules =
+    cost-row-rules _ _ _ _ _ _
+    (sym (at-read-cost-row .read-cost-row .ensures) ∙ ap costItem (at-a .a .given .1)) in
     omega (arith, rules .cheap 2)
 
 narrow-requires-4 : tie.Need-narrow-requires-4 Inv-loop μ-loop
 unfolding costItem
 narrow-requires-4 c κs =
-    let rules = cost-row-rules _ _ _ _ _ _ (sym (c .before .before .before .before .before .before .read-cost-row .ensures) ∙ ap costItem (c .before .before .before .before .a .given .1)) in
+    let at-a = c .before .before .before .before in
+    let at-read-cost-row = at-a .before .before in
+    let rules =
+    cost-row-rules _ _ _ _ _ _
+    (sym (at-read-cost-row .read-cost-row .ensures) ∙ ap costItem (at-a .a .given .1)) in
     omega (arith, rules .cheap 3)
 
 mul-t21 : tie.Need-mul-t21 Inv-loop μ-loop
@@ -80,9 +97,15 @@ loop-less c = search needs
 
 loop-again : tie.Need-loop-again Inv-loop μ-loop
 loop-again c =
-    going-on (c .before .before .before .before .before .before .before .before .before .loop .inv) _ _
-    (c .before .before .before .before .before .before .before .before .loop-test .taken)
-    (cost-read _ _ _ _ _ _ (going-taken (c .before .before .before .before .before .before .before .before .before .loop .inv) (c .before .before .before .before .before .before .before .before .loop-test .taken)) (c .before .before .before .before .before .before .before .read-cost-row .ensures) _ _ _ _ _ (c .before .before .before .before .before .a .given .1) (c .before .before .before .narrow .ensures) (c .before .before .narrow2 .ensures) (c .before .narrow3 .ensures) (c .narrow4 .ensures))
+    let at-narrow = c .before .before .before in
+    let at-a = at-narrow .before .before in
+    let at-read-cost-row = at-a .before .before in
+    let at-loop-test = at-read-cost-row .before in
+    let at-loop = at-loop-test .before in
+    going-on (at-loop .loop .inv) _ _ (at-loop-test .loop-test .taken)
+    (cost-read _ _ _ _ _ _ (going-taken (at-loop .loop .inv) (at-loop-test .loop-test .taken))
+    (at-read-cost-row .read-cost-row .ensures) _ _ _ _ _ (at-a .a .given .1) (at-narrow .narrow .ensures)
+    (c .before .before .narrow2 .ensures) (c .before .narrow3 .ensures) (c .narrow4 .ensures))
 
 returns-2 : tie.Need-returns-2 Inv-loop μ-loop
 returns-2 c = going-end (c .before .loop .inv) (c .loop-test .left)

@@ -54,8 +54,9 @@ add-t26 c = search needs
 
 add-t27 : tie.Need-add-t27
 add-t27 c =
-    omega
-    (arith, costs-few _ _ _ (c .before .before .before .before .before .before .before .before .costs-section .ensures) (c .before .before .before .before .before .before .k .given .1))
+    let at-k = c .before .before .before .before .before .before in
+    let at-costs-section = at-k .before .before in
+    omega (arith, costs-few _ _ _ (at-costs-section .costs-section .ensures) (at-k .k .given .1))
 
 returns : tie.Need-returns
 returns c =
