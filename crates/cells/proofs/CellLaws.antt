@@ -1,5 +1,5 @@
--- What the section of the columns says: row r, column j stands at its place and is a symbol; or which row is the first at
--- fault, and how.
+-- What the section of the columns says: row r, column j stands at its place and is a symbol; or which row is the
+-- first at fault, and how.
 -- Assumes nothing.
 use mathlib.Core.Bool.{Bool, true, false}
 use mathlib.Core.List.{List, [], _∷_, _++_}
@@ -150,7 +150,8 @@ module _ (sheet : List ℕ) (c : ℕ) where
   rows-read zero at line next before e =
       let same : at ≡ next = cc in
       (omega (arith, zero-mul (c + 1)), λ r h. absurd (omega arith))
-  rows-read (suc n) at line next before e = by-row (row-is sheet c at line) (λ i items. rows-read n i (line + 1) next items) e
+  rows-read (suc n) at line next before e =
+      by-row (row-is sheet c at line) (λ i items. rows-read n i (line + 1) next items) e
     where
       by-row : {x : Item ℕ} → RowIs sheet c at line x
           → ((i : ℕ) (items : List ℕ) → section (rowJudge c sheet) n i (line + 1) items .part ≡ Read next
@@ -166,11 +167,13 @@ module _ (sheet : List ℕ) (c : ℕ) where
       by-row (wrong f w) rest h = let z : _≡_ {A = ℕ} 0 1 = cc in absurd (omega arith)
 
   -- the first fault of a section that is refused
-  pub rows-refused : (n at line : ℕ) (before : List ℕ) (f : Fault) → section (rowJudge c sheet) n at line before .part ≡ Wrong f
+  pub rows-refused : (n at line : ℕ) (before : List ℕ) (f : Fault)
+      → section (rowJudge c sheet) n at line before .part ≡ Wrong f
       → FirstFault sheet c n at line f
   unfolding section follow rowJudge
   rows-refused zero at line before f e = let z : _≡_ {A = ℕ} 0 1 = cc in absurd (omega arith)
-  rows-refused (suc n) at line before f e = by-row (row-is sheet c at line) (λ i items. rows-refused n i (line + 1) items f) e
+  rows-refused (suc n) at line before f e =
+      by-row (row-is sheet c at line) (λ i items. rows-refused n i (line + 1) items f) e
     where
       later : (i : ℕ) → i ≡ at + (c + 1) → IsRow sheet c at → FirstFault sheet c n i (line + 1) f
           → FirstFault sheet c (suc n) at line f
@@ -182,7 +185,8 @@ module _ (sheet : List ℕ) (c : ℕ) where
           record {
             row = suc k;
             few = omega arith;
-            before = all-rows k at row (subst (λ p. (r : ℕ) → r < k → IsRow sheet c (rowAt p c r)) here (first .before));
+            before =
+                all-rows k at row (subst (λ p. (r : ℕ) → r < k → IsRow sheet c (rowAt p c r)) here (first .before));
             wrong = subst (λ p. RowFault sheet c p (line + suc k) f) place
                 (subst (λ l. RowFault sheet c (rowAt i c k) l f) number (first .wrong));
           }

@@ -27,8 +27,8 @@ unfoldable pub isSymbol : ℕ → Bool
 unfolding isStates symbolOf
 isSymbol byte = isStates (symbolOf byte)
 
--- The row of the line from a place up to its end: its item is its place. A line that has not c bytes is SHEET; one that has
--- a byte that is not in the code list is then SYMBOL.
+-- The row of the line from a place up to its end: its item is its place. A line that has not c bytes is SHEET; one
+-- that has a byte that is not in the code list is then SYMBOL.
 unfoldable pub rowTo : ℕ → List ℕ → ℕ → ℕ → ℕ → Item ℕ
 unfolding pick textOf every isSymbol
 rowTo c sheet at line end =

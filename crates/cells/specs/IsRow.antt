@@ -20,8 +20,8 @@ pub record IsRow (sheet : List ℕ) (c at : ℕ) : Type 0 where
 abbrev pub rowAt : ℕ → ℕ → ℕ → ℕ
 rowAt cells c r = cells + r * (c + 1)
 
--- What is wrong with the line at a place: SHEET where it is no line of c bytes, and SYMBOL where it is one and has a byte that
--- is not in the code list.
+-- What is wrong with the line at a place: SHEET where it is no line of c bytes, and SYMBOL where it is one and has a
+-- byte that is not in the code list.
 abbrev pub RowFault : List ℕ → ℕ → ℕ → ℕ → Fault → Type 0
 RowFault sheet c at line f =
     ((f ≡ Sheet line) × (IsLine sheet at (at + c) → ⊥))

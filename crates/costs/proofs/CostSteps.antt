@@ -29,7 +29,8 @@ use Rattle.costs.specs.declared.CostRow.the-variants.{Costs, NoCosts}
 
 -- the unit table over any table of four rows
 pub unit-written : (table : List (List ℕ)) → length table ≡ 4
-    → set (set (set (set table 0 (0 ∷ 1 ∷ 1 ∷ 1 ∷ [])) 1 (1 ∷ 0 ∷ 1 ∷ 1 ∷ [])) 2 (1 ∷ 1 ∷ 0 ∷ 1 ∷ [])) 3 (1 ∷ 1 ∷ 1 ∷ 0 ∷ [])
+    → set (set (set (set table 0 (0 ∷ 1 ∷ 1 ∷ 1 ∷ [])) 1 (1 ∷ 0 ∷ 1 ∷ 1 ∷ [])) 2 (1 ∷ 1 ∷ 0 ∷ 1 ∷ [])) 3
+    (1 ∷ 1 ∷ 1 ∷ 0 ∷ [])
     ≡ wrote unitTable table
 unfolding wrote unitTable
 unit-written [] e = absurd (omega arith)
@@ -58,7 +59,8 @@ module _ (sheet : List ℕ) (earlier : List (List ℕ)) (x at line : ℕ) (answe
   cost-read a b c d next e i-is j-is k-is l-is = rw (state, i-is, j-is, k-is, l-is) (sym judged ∙ ap costItem e)
 
 -- the count of the costs, by the number that is read
-module _ (sheet : List ℕ) (at line : ℕ) (answer : Count) (read : answer ≡ countOf (bytes "costs ") 0 4 sheet at line) where
+module _ (sheet : List ℕ) (at line : ℕ) (answer : Count)
+    (read : answer ≡ countOf (bytes "costs ") 0 4 sheet at line) where
   pub cost-count-none : (f : Fault) → answer ≡ Miscounted f → answer ≡ costCount sheet at line
   unfolding costCount onCount
   cost-count-none f e = rw (← read, e)

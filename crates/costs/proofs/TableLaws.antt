@@ -42,7 +42,7 @@ lines-rules sheet at line next e =
           let items = section (costJudge sheet) 4 at line [] .items in
           let state = length-take-le x items (omega (arith, size)) in
           subst (λ s. RowRules s (getD items x [])) state
-          (cost-row-rules sheet (length (take x items)) (judged .place) (line + x) (getD items x []) (judged .next) (judged .fair));
+          (cost-row-rules sheet (length (take x items)) (judged .place) (line + x) _ (judged .next) (judged .fair));
     }
 
 table-rules : (sheet : List ℕ) (k at line next : ℕ) → costTable sheet k at line .part ≡ Read next

@@ -1,4 +1,5 @@
--- The section of the costs: `costs 0` for the unit table, or `costs 4` and four lines of four numbers parted by one space.
+-- The section of the costs: `costs 0` for the unit table, or `costs 4` and four lines of four numbers parted by one
+-- space.
 -- Assumes nothing.
 use mathlib.Core.List.{List, [], _∷_}
 use Prim.Native.Nat.{ℕ, zero, suc, _+_}
@@ -22,8 +23,9 @@ unfoldable pub costItem : CostRow → Item (List ℕ)
 costItem (Costs a b c d next) = item (a ∷ b ∷ c ∷ d ∷ []) next
 costItem (NoCosts f) = fault f
 
--- The row of the cost table on the line at a place, for the parent's state x: four numbers of at most 999, with one space
--- between and the line end after them, the x-th of which, counted from 0, is 0. Anything else is SHEET on the line.
+-- The row of the cost table on the line at a place, for the parent's state x: four numbers of at most 999, with one
+-- space between and the line end after them, the x-th of which, counted from 0, is 0. Anything else is SHEET on the
+-- line.
 unfoldable pub costRowOf : List ℕ → ℕ → ℕ → ℕ → Item (List ℕ)
 unfolding pick fieldOf onNumber
 costRowOf sheet x at line =

@@ -41,7 +41,10 @@ with-read n m next (Wrong f) e = let z : _≡_ {A = ℕ} 0 1 = cc in absurd (ome
 -- a section that is read: its count line is read, and its lines after it
 pub counting-read : {A : Type 0} (go : ℕ → ℕ → Section A) (count : Count) (n next : ℕ)
     → counting count go .count ≡ Counted n next
-    → (from : ℕ) × (count ≡ Counted n from) × (go n from .part ≡ Read next) × (counting count go .items ≡ go n from .items)
+    → (from : ℕ)
+    × (count ≡ Counted n from)
+    × (go n from .part ≡ Read next)
+    × (counting count go .items ≡ go n from .items)
 unfolding counting
 counting-read go (Counted m from) n next e =
     let read = with-read m n next (go m from .part) e in

@@ -70,7 +70,8 @@ pub number-zero : (most : ℕ) (sheet : List ℕ) (i : ℕ) → i < length sheet
     → Value 0 (i + 1) ≡ numberOf most sheet i
 unfolding numberOf numberIn
 number-zero most sheet i h e =
-    rw (drop-below sheet i h) (limit-within most 0 (i + 1) (omega arith) ∙ ap (limit most) (sym (pick-true _ _ (eq-eqb _ _ e))))
+    rw (drop-below sheet i h)
+    (limit-within most 0 (i + 1) (omega arith) ∙ ap (limit most) (sym (pick-true _ _ (eq-eqb _ _ e))))
 
 pub number-none : (most : ℕ) (sheet : List ℕ) (i : ℕ) → i < length sheet → (getD sheet i 0 ≡ 48 → ⊥)
     → within 48 57 (getD sheet i 0) ≡ false → NoNumber ≡ numberOf most sheet i

@@ -47,8 +47,8 @@ module _ {A : Type 0} (judge : List A → ℕ → ℕ → Item A) (t i at line :
       let none : t - i ≡ 0 = omega arith in
       rw none
 
--- The reading of a section of t lines that fills a list: i lines are read, whose items stand in the list; the rest of it
--- is as it was at entry.
+-- The reading of a section of t lines that fills a list: i lines are read, whose items stand in the list; the rest of
+-- it is as it was at entry.
 pub record Going {A : Type 0} (judge : List A → ℕ → ℕ → Item A) (t from first : ℕ) (entry : List A) (i at line : ℕ)
     (list : List A) : Type 0 where
   pub few : i ≤ t
@@ -96,7 +96,8 @@ module _ {A : Type 0} {judge : List A → ℕ → ℕ → Item A} {t from first 
           room = room;
           size = length-set list i a ∙ size;
           count = omega (arith, going .count);
-          rest = rw (drop-set-lt (i + 1) list i a (omega arith), ← drop-drop 1 i list, ← drop-drop 1 i entry, going .rest);
+          rest =
+              rw (drop-set-lt (i + 1) list i a (omega arith), ← drop-drop 1 i list, ← drop-drop 1 i entry, going .rest);
           whole =
               rw (add-one, take-suc-set list i a low, ← add-one)
               (section-on judge t i at line (take i list) a next h e ∙ going .whole);

@@ -12,15 +12,17 @@ use Rattle.lines.specs.Section.{Item, item, fault, Section, follow, sect
 use Rattle.lines.specs.declared.Fault.{Fault}
 use Rattle.lines.specs.declared.Part.the-variants.{Read, Wrong}
 
--- item i of a section whose first line has the number first: it was judged, at some place of line first + i, by the items
--- before it
-pub record Judged {A : Type 0} (judge : List A → ℕ → ℕ → Item A) (first : ℕ) (items : List A) (i : ℕ) (d : A) : Type 0 where
+-- item i of a section whose first line has the number first: it was judged, at some place of line first + i, by the
+-- items before it
+pub record Judged {A : Type 0} (judge : List A → ℕ → ℕ → Item A) (first : ℕ) (items : List A) (i : ℕ) (d : A)
+    : Type 0 where
   pub place : ℕ
   pub next : ℕ
   pub fair : judge (take i items) place (first + i) ≡ item (getD items i d) next
 
 -- the line at fault, which follows the items
-pub record Failed {A : Type 0} (judge : List A → ℕ → ℕ → Item A) (first t : ℕ) (items : List A) (f : Fault) : Type 0 where
+pub record Failed {A : Type 0} (judge : List A → ℕ → ℕ → Item A) (first t : ℕ) (items : List A) (f : Fault)
+    : Type 0 where
   pub few : length items < t
   pub place : ℕ
   pub unfair : judge items place (first + length items) ≡ fault f
@@ -111,7 +113,8 @@ module _ {A : Type 0} (judge : List A → ℕ → ℕ → Item A) where
     where
       by-item : (x : Item A) → judge before at line ≡ x
           → ((a : A) (i : ℕ) → section judge n i (line + 1) (before ++ a ∷ []) .part ≡ Wrong f
-          → Failed judge first (length (before ++ a ∷ []) + n) (section judge n i (line + 1) (before ++ a ∷ []) .items) f)
+          → Failed judge first (length (before ++ a ∷ []) + n)
+          (section judge n i (line + 1) (before ++ a ∷ []) .items) f)
           → follow x before (λ items i. section judge n i (line + 1) items) .part ≡ Wrong f
           → Failed judge first (length before + suc n)
           (follow x before (λ items i. section judge n i (line + 1) items) .items) f

@@ -17,8 +17,8 @@ unfoldable pub onPlace {ℓ} : {A : Type ℓ} → Place → A → (ℕ → A) �
 onPlace (At i) none go = go i
 onPlace Nowhere none go = none
 
--- The count of the line at a place, with the place of the next line: the word, its space with it, a number from least to
--- most, and the line end. Anything else is SHEET on the line.
+-- The count of the line at a place, with the place of the next line: the word, its space with it, a number from least
+-- to most, and the line end. Anything else is SHEET on the line.
 unfoldable pub countOf : List ℕ → ℕ → ℕ → List ℕ → ℕ → ℕ → Count
 unfolding wordOf fieldOf onNumber onPlace pick
 countOf word least most sheet at line =

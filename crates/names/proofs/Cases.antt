@@ -24,7 +24,8 @@ unfolding namesOf
 names-longer = refl
 
 -- of two equal names the later carries the line
-pub names-equal : namesOf (bytes "names 3\nab\nc\nab\n") 0 1 ≡ record { items = 8 ∷ 11 ∷ []; count = Miscounted (Sheet 4) }
+pub names-equal : namesOf (bytes "names 3\nab\nc\nab\n") 0 1
+    ≡ record { items = 8 ∷ 11 ∷ []; count = Miscounted (Sheet 4) }
 unfolding namesOf
 names-equal = refl
 
@@ -33,7 +34,8 @@ pub names-more : namesOf (bytes "names 4\na\nb\nc\ncolumns 2\n") 0 1 .count ≡ 
 unfolding namesOf
 names-more = refl
 
--- an empty name; a name of 33 bytes, and of 32; a name with a bracket; a space; a byte 13; an open last line; none at all
+-- an empty name; a name of 33 bytes, and of 32; a name with a bracket; a space; a byte 13; an open last line; none at
+-- all
 pub names-empty : namesOf (bytes "names 2\na\n\n") 0 1 .count ≡ Miscounted (Sheet 3)
 unfolding namesOf
 names-empty = refl

@@ -15,7 +15,8 @@ use Rattle.lines.specs.Line.{lineOf}
 use Rattle.lines.specs.Section.{item, fault}
 use Rattle.lines.specs.declared.Fault.the-variants.{Sheet}
 use Rattle.lines.specs.declared.Place.the-variants.{At, Nowhere}
-use Rattle.lines.proofs.ByteLaws.{drop-below, drop-past, text-on, text-end, text-length, within-low, within-high, within-yes}
+use Rattle.lines.proofs.ByteLaws.{drop-below, drop-past, text-on, text-end, text-length, within-low, within-high}
+use Rattle.lines.proofs.ByteLaws.{within-yes}
 use Rattle.names.specs.Name.{isNameByte, isName, sameText, isNew}
 use Rattle.names.specs.Names.{nameOf}
 

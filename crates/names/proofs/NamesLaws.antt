@@ -1,4 +1,5 @@
--- What a section of names says: 1 to 512 names, all well formed and all different; or the first line that is no such name.
+-- What a section of names says: 1 to 512 names, all well formed and all different; or the first line that is no such
+-- name.
 -- Assumes nothing.
 use mathlib.Core.Bool.{Bool, true, false}
 use mathlib.Core.List.{List, []}
@@ -71,7 +72,8 @@ name-item sheet earlier at line place next e = by-line (lineOf sheet at) refl
         → (b : Bool) → isNew sheet earlier at ≡ b → NameRead sheet earlier at place
     by-new end l n false w = no-item (name-old sheet earlier at line end l n w) e
     by-new end l n true w =
-        record { same = same-item (name-whole sheet earlier at line end l n w) e; end = end; ends = l; name = n; new = w }
+        let same = same-item (name-whole sheet earlier at line end l n w) e in
+        record { same = same; end = end; ends = l; name = n; new = w }
 
     by-name : (end : ℕ) → lineOf sheet at ≡ At end → (b : Bool) → isName (textOf sheet at end) ≡ b
         → NameRead sheet earlier at place
@@ -83,7 +85,8 @@ name-item sheet earlier at line place next e = by-line (lineOf sheet at) refl
     by-line (At end) l = by-name end l (isName (textOf sheet at end)) refl
 
 -- every fault of a name is SHEET on its line
-name-fault : (sheet earlier : List ℕ) (at line : ℕ) (f : Fault) → nameOf sheet earlier at line ≡ fault f → f ≡ Sheet line
+name-fault : (sheet earlier : List ℕ) (at line : ℕ) (f : Fault) → nameOf sheet earlier at line ≡ fault f
+    → f ≡ Sheet line
 name-fault sheet earlier at line f e = by-line (lineOf sheet at) refl
   where
     by-new : (end : ℕ) → lineOf sheet at ≡ At end → isName (textOf sheet at end) ≡ true
@@ -110,7 +113,7 @@ module _ (sheet : List ℕ) (n at line : ℕ) where
   unfolding places
   read-at i h =
       let judged = section-judged (nameOf sheet) n at line line [] 0 (omega arith) i (omega arith) h in
-      let read = name-item sheet (take i places) (judged .place) (line + i) (getD places i 0) (judged .next) (judged .fair) in
+      let read = name-item sheet _ (judged .place) (line + i) (getD places i 0) (judged .next) (judged .fair) in
       subst (λ p. NameRead sheet (take i places) p (getD places i 0)) (sym (read .same)) read
 
   -- the names of a section, up to the first fault, are names, and no two of them are the same

@@ -11,13 +11,14 @@ use Rattle.lines.specs.Section.{Item, item, fault, section}
 use Rattle.lines.specs.declared.Fault.the-variants.{Sheet}
 use Rattle.names.specs.Name.{isName, isNew}
 
--- The name on the line at a place, after the names at earlier places: its item is its place. Anything but a name that is
--- none of the earlier ones is SHEET on the line.
+-- The name on the line at a place, after the names at earlier places: its item is its place. Anything but a name that
+-- is none of the earlier ones is SHEET on the line.
 unfoldable pub nameOf : List ℕ → List ℕ → ℕ → ℕ → Item ℕ
 unfolding pick both textOf onPlace lineOf isName isNew
 nameOf sheet earlier at line =
     onPlace (lineOf sheet at) (fault (Sheet line))
-    (λ end. pick (both (isName (textOf sheet at end)) (isNew sheet earlier at)) (item at (end + 1)) (fault (Sheet line)))
+    (λ end.
+    pick (both (isName (textOf sheet at end)) (isNew sheet earlier at)) (item at (end + 1)) (fault (Sheet line)))
 
 -- the section of the names at a place and on a line: a count from 1 to 512, and as many names
 unfoldable pub namesOf : List ℕ → ℕ → ℕ → Counting ℕ

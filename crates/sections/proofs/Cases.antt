@@ -94,8 +94,8 @@ pub sheet-lower : read "names 1\na\ncolumns 2\nAc\ncosts 0\ntree 1\n" ≡ Faulty
 unfolding read
 sheet-lower = refl
 
--- a line of a wrong length is SHEET even if it has a J; a J on an earlier line comes before a bad byte on a later one; a tab
--- comes before the J on its own line
+-- a line of a wrong length is SHEET even if it has a J; a J on an earlier line comes before a bad byte on a later one; a
+-- tab comes before the J on its own line
 pub sheet-long-j : read "names 1\na\ncolumns 2\nAJC\ncosts 0\ntree 1\n" ≡ Faulty (Sheet 4)
 unfolding read
 sheet-long-j = refl
@@ -133,15 +133,18 @@ pub costs-three : read "names 1\na\ncolumns 0\n\ncosts 3\ntree 1\n" ≡ Faulty (
 unfolding read
 costs-three = refl
 
-pub costs-diagonal : read "names 1\na\ncolumns 0\n\ncosts 4\n0 1 1 1\n1 1 1 1\n1 1 0 1\n1 1 1 0\ntree 1\n" ≡ Faulty (Sheet 7)
+pub costs-diagonal : read "names 1\na\ncolumns 0\n\ncosts 4\n0 1 1 1\n1 1 1 1\n1 1 0 1\n1 1 1 0\ntree 1\n"
+    ≡ Faulty (Sheet 7)
 unfolding read
 costs-diagonal = refl
 
-pub costs-1000 : read "names 1\na\ncolumns 0\n\ncosts 4\n0 1000 1 1\n1 0 1 1\n1 1 0 1\n1 1 1 0\ntree 1\n" ≡ Faulty (Sheet 6)
+pub costs-1000 : read "names 1\na\ncolumns 0\n\ncosts 4\n0 1000 1 1\n1 0 1 1\n1 1 0 1\n1 1 1 0\ntree 1\n"
+    ≡ Faulty (Sheet 6)
 unfolding read
 costs-1000 = refl
 
-pub costs-zero : read "names 1\na\ncolumns 0\n\ncosts 4\n0 01 1 1\n1 0 1 1\n1 1 0 1\n1 1 1 0\ntree 1\n" ≡ Faulty (Sheet 6)
+pub costs-zero : read "names 1\na\ncolumns 0\n\ncosts 4\n0 01 1 1\n1 0 1 1\n1 1 0 1\n1 1 1 0\ntree 1\n"
+    ≡ Faulty (Sheet 6)
 unfolding read
 costs-zero = refl
 
@@ -149,11 +152,13 @@ pub costs-few : read "names 1\na\ncolumns 0\n\ncosts 4\n0 1 1 1\n1 0 1 1\n1 1 0\
 unfolding read
 costs-few = refl
 
-pub costs-many : read "names 1\na\ncolumns 0\n\ncosts 4\n0 1 1 1\n1 0 1 1\n1 1 0 1 1\n1 1 1 0\ntree 1\n" ≡ Faulty (Sheet 8)
+pub costs-many : read "names 1\na\ncolumns 0\n\ncosts 4\n0 1 1 1\n1 0 1 1\n1 1 0 1 1\n1 1 1 0\ntree 1\n"
+    ≡ Faulty (Sheet 8)
 unfolding read
 costs-many = refl
 
-pub costs-spaces : read "names 1\na\ncolumns 0\n\ncosts 4\n0  1 1 1\n1 0 1 1\n1 1 0 1\n1 1 1 0\ntree 1\n" ≡ Faulty (Sheet 6)
+pub costs-spaces : read "names 1\na\ncolumns 0\n\ncosts 4\n0  1 1 1\n1 0 1 1\n1 1 0 1\n1 1 1 0\ntree 1\n"
+    ≡ Faulty (Sheet 6)
 unfolding read
 costs-spaces = refl
 

@@ -90,7 +90,8 @@ module _ (sheet : List ℕ) (s : Sections) where
       by-matrix (Cells c cells next) r h = costs-read t c cells next (cells-read t sheet at (t + 2) c cells next r) h
 
   -- a sheet that is read has names, cells and costs that keep their rules
-  pub sheet-read : sheetOf sheet .rest .reading ≡ Sound s → SheetRead sheet (sheetOf sheet .names) (sheetOf sheet .rest .costs) s
+  pub sheet-read : sheetOf sheet .rest .reading ≡ Sound s
+      → SheetRead sheet (sheetOf sheet .names) (sheetOf sheet .rest .costs) s
   unfolding sheetOf onCount refused
   sheet-read e = by-count (namesOf sheet 0 1 .count) refl e
     where

@@ -13,7 +13,8 @@ use Rattle.lines.specs.declared.Fault.{Fault}
 use Rattle.names.specs.Names.{namesOf}
 use Rattle.cells.specs.Cells.{matrixOf}
 use Rattle.costs.specs.Costs.{costsOf}
-use Rattle.sections.specs.Sheet.{GivesRest, GivesSheet, onMatrix, refused, treeFrom, costsFrom, columnsFrom, sheetOf}
+use Rattle.sections.specs.Sheet.{GivesRest, GivesSheet, onMatrix, refused}
+use Rattle.sections.specs.Sheet.{treeFrom, costsFrom, columnsFrom, sheetOf}
 use Rattle.cells.specs.declared.Matrix.{Matrix}
 use Rattle.cells.specs.declared.Matrix.the-variants.{Cells, NoCells}
 use Rattle.sections.specs.declared.Reading.{Reading}
@@ -85,15 +86,18 @@ module _ (sheet : List ℕ) (t at : ℕ) (table : List (List ℕ)) where
 
   -- the cells, and what follows
   pub rest-cells : (c cells next : ℕ) (answer : Reading) (table₁ : List (List ℕ))
-      → matrixOf t sheet at (t + 2) ≡ Cells c cells next → GivesRest (costsFrom sheet t c cells next) answer table table₁
+      → matrixOf t sheet at (t + 2) ≡ Cells c cells next
+      → GivesRest (costsFrom sheet t c cells next) answer table table₁
       → GivesRest (columnsFrom sheet t at) answer table table₁
   unfolding columnsFrom
-  rest-cells c cells next answer table₁ e gives = rw (matrix-right (matrixOf t sheet at (t + 2)) c cells next _ _ e) gives
+  rest-cells c cells next answer table₁ e gives =
+      rw (matrix-right (matrixOf t sheet at (t + 2)) c cells next _ _ e) gives
 
 module _ (sheet names names₁ : List ℕ) (table : List (List ℕ)) (count : Count)
     (named : GivesCount (namesOf sheet 0 1) count names names₁) where
   -- no names
-  pub sheet-no-names : (f : Fault) → count ≡ Miscounted f → GivesSheet (sheetOf sheet) (Faulty f) names names₁ table table
+  pub sheet-no-names : (f : Fault) → count ≡ Miscounted f
+      → GivesSheet (sheetOf sheet) (Faulty f) names names₁ table table
   unfolding sheetOf
   sheet-no-names f e =
       record {

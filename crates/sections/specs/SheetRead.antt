@@ -9,8 +9,8 @@ use Rattle.costs.specs.CostRules.{TableRules}
 use Rattle.names.specs.IsName.{AllNames}
 use Rattle.sections.specs.declared.Sections.{Sections}
 
--- After t names: at most 65,535 columns, each row a line of as many symbols, a cost table that keeps the rules, and the place
--- of the tree line within the sheet or at its end.
+-- After t names: at most 65,535 columns, each row a line of as many symbols, a cost table that keeps the rules, and
+-- the place of the tree line within the sheet or at its end.
 pub record RestRead (sheet : List ℕ) (t : ℕ) (costs : List (List ℕ)) (s : Sections) : Type 0 where
   pub tips : s .tips ≡ t
   pub columns : s .columns ≤ 65535

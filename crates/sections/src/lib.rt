@@ -11,8 +11,8 @@ use lines::Fault;
 use lines::read_count;
 use names::names_section;
 
-// What the sections say: the number of tips and of columns, the place of the first cell, and the place and the number of
-// the tree line.
+// What the sections say: the number of tips and of columns, the place of the first cell, and the place and the number
+// of the tree line.
 pub struct Sections {
     pub tips: usize,
     pub columns: usize,
@@ -68,7 +68,8 @@ fn read_from_columns(sheet: &[u8], t: usize, at: usize, table: &mut [[u16; 4]; 4
 // The sheet up to its tree line. The place of each name goes into names, and the costs into table.
 pub fn read_sections(sheet: &[u8], names: &mut [usize], table: &mut [[u16; 4]; 4]) -> Reading
     requires { ⌜ (512 ≤ length (now names)) × (length (now table) ≡ 4) ⌝ }
-    ensures { λ r. ⌜ GivesSheet (sheetOf (now (sheet .entry))) r (now (names .entry)) (now (names .exit)) (now (table .entry)) (now (table .exit)) ⌝ }
+    ensures { λ r. ⌜ GivesSheet (sheetOf (now (sheet .entry))) r (now (names .entry)) (now (names .exit))
+        (now (table .entry)) (now (table .exit)) ⌝ }
 {
     match names_section(sheet, 0, 1, names) {
         Count::Miscounted(fault) => Reading::Faulty(fault),

@@ -1,4 +1,4 @@
--- The table of the code, entry by entry, and the one computed test that each entry is what the code list says of its byte.
+-- The table of the code, and the one computed test that each entry is what the code list says of its byte.
 -- Assumes nothing.
 use mathlib.Core.Bool.{Bool, true, false}
 use mathlib.Core.List.{List, [], _∷_}

@@ -1,4 +1,4 @@
--- The code list: the symbols that a cell may have, by the IUPAC-IUB nucleotide code, and the bases that each stands for.
+-- The code list: the symbols that a cell may have, by the IUPAC-IUB nucleotide code, and the bases of each.
 -- Assumes nothing.
 use mathlib.Core.List.{List, [], _∷_}
 use Prim.Native.Char.{Char, code}

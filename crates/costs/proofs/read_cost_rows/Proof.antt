@@ -1,5 +1,5 @@
--- `costs::read_cost_rows` meets its contract. The invariant: x rows are read, and stand in the table. The measure is the
--- number of rows left.
+-- `costs::read_cost_rows` meets its contract. The invariant: x rows are read, and stand in the table. The measure is
+-- the number of rows left.
 -- Assumes nothing.
 use mathlib.Core.Path.{sym, ap, _∙_}
 use Prim.Native.Nat.{_-_}
