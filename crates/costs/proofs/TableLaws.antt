@@ -38,8 +38,9 @@ lines-rules sheet at line next e =
     record {
       size = omega (arith, size);
       rows = λ x h.
-          let judged = section-judged (costJudge sheet) 4 at line line [] [] (omega arith) x (omega arith) (omega (arith, size)) in
           let items = section (costJudge sheet) 4 at line [] .items in
+          let low : x < length items = omega (arith, size) in
+          let judged = section-judged (costJudge sheet) 4 at line line [] [] (omega arith) x (omega arith) low in
           let state = length-take-le x items (omega (arith, size)) in
           subst (λ s. RowRules s (getD items x [])) state
           (cost-row-rules sheet (length (take x items)) (judged .place) (line + x) _ (judged .next) (judged .fair));

@@ -3,33 +3,31 @@
 -- Assumes nothing.
 use mathlib.Core.Bool.{Bool, true, false}
 use mathlib.Core.List.{List, []}
-use mathlib.Core.Path.{_≡_, refl, sym, ap, subst, _∙_}
+use mathlib.Core.Path.{_≡_, refl, sym, subst, _∙_}
 use Prim.Native.Nat.{ℕ, _+_, _<_, _≤_}
 use native.Mathlib.Omega.{arith}
 use lib.ListN.{length, getD, take, drop}
 use lib.Seq.{length-take-le, getD-take}
-use Rattle.lines.specs.Bytes.{bytes, textOf}
-use Rattle.lines.specs.Count.{countOf}
-use Rattle.lines.specs.Counting.{GivesCount}
-use Rattle.lines.specs.IsLine.{IsLine}
-use Rattle.lines.specs.Line.{lineOf}
-use Rattle.lines.specs.Section.{Item, item, fault, section}
-use Rattle.lines.specs.declared.Count.{Count}
-use Rattle.lines.specs.declared.Count.the-variants.{Counted}
-use Rattle.lines.specs.declared.Fault.{Fault}
-use Rattle.lines.specs.declared.Fault.the-variants.{Sheet}
-use Rattle.lines.specs.declared.Part.the-variants.{Wrong}
-use Rattle.lines.specs.declared.Place.{Place}
-use Rattle.lines.specs.declared.Place.the-variants.{At, Nowhere}
 use Rattle.lines.proofs.CountLaws.{count-read}
 use Rattle.lines.proofs.CountingLaws.{counting-read}
 use Rattle.lines.proofs.EveryLaws.{no-test}
 use Rattle.lines.proofs.LineLaws.{line-read, line-found}
-use Rattle.lines.proofs.SectionReads.{Judged, Failed, section-judged, section-size, section-failed}
+use Rattle.lines.proofs.SectionReads.{section-judged, section-size, section-failed}
+use Rattle.lines.specs.Bytes.{bytes}
+use Rattle.lines.specs.Count.{countOf}
+use Rattle.lines.specs.Counting.{GivesCount}
+use Rattle.lines.specs.IsLine.{IsLine}
+use Rattle.lines.specs.Section.{fault, section}
+use Rattle.lines.specs.declared.Count.the-variants.{Counted}
+use Rattle.lines.specs.declared.Count.{Count}
+use Rattle.lines.specs.declared.Fault.the-variants.{Sheet}
+use Rattle.lines.specs.declared.Fault.{Fault}
+use Rattle.lines.specs.declared.Part.the-variants.{Wrong}
 use Rattle.names.specs.IsName.{IsNameLine, SameLine, AllNames}
-use Rattle.names.specs.Name.{isName, sameText, isNew}
+use Rattle.names.specs.Name.{sameText}
 use Rattle.names.specs.Names.{nameOf, namesOf}
-use Rattle.names.proofs.NameSteps.{name-no-line, name-none, name-old, name-whole}
+use Rattle.names.proofs.NameJudged.{NameRead, no-item, name-item, name-fault}
+use Rattle.names.proofs.NameSteps.{name-whole}
 use Rattle.names.proofs.NameWords.{name-line-told, name-line-found}
 use Rattle.names.proofs.SameWords.{same-told, same-found, new-told, new-found}
 
@@ -46,63 +44,6 @@ names-count sheet at line t next e =
 pub names-few : (sheet : List ℕ) (at line : ℕ) {t next : ℕ} {answer : Count} {entry exit : List ℕ}
     → GivesCount (namesOf sheet at line) answer entry exit → answer ≡ Counted t next → t ≤ 512
 names-few sheet at line {t} {next} gives e = names-count sheet at line t next (sym (gives .said) ∙ e) .1
-
--- a name that is read
-record NameRead (sheet earlier : List ℕ) (at place : ℕ) : Type 0 where
-  pub same : place ≡ at
-  pub end : ℕ
-  pub ends : lineOf sheet at ≡ At end
-  pub name : isName (textOf sheet at end) ≡ true
-  pub new : isNew sheet earlier at ≡ true
-
-no-item : {A : Type 0} {judged : Item ℕ} {f : Fault} {a next : ℕ} → fault f ≡ judged → judged ≡ item a next → A
-no-item h e = let z : _≡_ {A = ℕ} 0 1 = cc in absurd (omega arith)
-
-same-item : {judged : Item ℕ} {a b i next : ℕ} → item a i ≡ judged → judged ≡ item b next → b ≡ a
-same-item h e = cc
-
-same-fault : {judged : Item ℕ} {f g : Fault} → fault f ≡ judged → judged ≡ fault g → g ≡ f
-same-fault h e = cc
-
-name-item : (sheet earlier : List ℕ) (at line place next : ℕ) → nameOf sheet earlier at line ≡ item place next
-    → NameRead sheet earlier at place
-name-item sheet earlier at line place next e = by-line (lineOf sheet at) refl
-  where
-    by-new : (end : ℕ) → lineOf sheet at ≡ At end → isName (textOf sheet at end) ≡ true
-        → (b : Bool) → isNew sheet earlier at ≡ b → NameRead sheet earlier at place
-    by-new end l n false w = no-item (name-old sheet earlier at line end l n w) e
-    by-new end l n true w =
-        let same = same-item (name-whole sheet earlier at line end l n w) e in
-        record { same = same; end = end; ends = l; name = n; new = w }
-
-    by-name : (end : ℕ) → lineOf sheet at ≡ At end → (b : Bool) → isName (textOf sheet at end) ≡ b
-        → NameRead sheet earlier at place
-    by-name end l false n = no-item (name-none sheet earlier at line end l n) e
-    by-name end l true n = by-new end l n (isNew sheet earlier at) refl
-
-    by-line : (p : Place) → lineOf sheet at ≡ p → NameRead sheet earlier at place
-    by-line Nowhere l = no-item (name-no-line sheet earlier at line l) e
-    by-line (At end) l = by-name end l (isName (textOf sheet at end)) refl
-
--- every fault of a name is SHEET on its line
-name-fault : (sheet earlier : List ℕ) (at line : ℕ) (f : Fault) → nameOf sheet earlier at line ≡ fault f
-    → f ≡ Sheet line
-name-fault sheet earlier at line f e = by-line (lineOf sheet at) refl
-  where
-    by-new : (end : ℕ) → lineOf sheet at ≡ At end → isName (textOf sheet at end) ≡ true
-        → (b : Bool) → isNew sheet earlier at ≡ b → f ≡ Sheet line
-    by-new end l n false w = same-fault (name-old sheet earlier at line end l n w) e
-    by-new end l n true w =
-        let i = name-whole sheet earlier at line end l n w ∙ e in
-        no-item refl (sym i)
-
-    by-name : (end : ℕ) → lineOf sheet at ≡ At end → (b : Bool) → isName (textOf sheet at end) ≡ b → f ≡ Sheet line
-    by-name end l false n = same-fault (name-none sheet earlier at line end l n) e
-    by-name end l true n = by-new end l n (isNew sheet earlier at) refl
-
-    by-line : (p : Place) → lineOf sheet at ≡ p → f ≡ Sheet line
-    by-line Nowhere l = same-fault (name-no-line sheet earlier at line l) e
-    by-line (At end) l = by-name end l (isName (textOf sheet at end)) refl
 
 module _ (sheet : List ℕ) (n at line : ℕ) where
   -- the places of the names of a section of n names

@@ -30,7 +30,7 @@ unfolding sheetOf
 sheet-paper = refl
 
 -- four lines of costs, by the parent's state and then the child's
-pub sheet-costs : sheetOf (bytes "names 1\na\ncolumns 0\n\ncosts 4\n0 1 2 3\n4 0 5 6\n7 8 0 9\n10 11 999 0\ntree 1\na;\n")
+pub sheet-costs : sheetOf (bytes "names 1\na\ncolumns 0\n\ncosts 4\n0 1 2 3\n4 0 5 6\n7 8 0 9\n10 11 999 0\ntree 1\n")
     ≡ record {
       names = 8 ∷ [];
       rest = record {
@@ -94,8 +94,8 @@ pub sheet-lower : read "names 1\na\ncolumns 2\nAc\ncosts 0\ntree 1\n" ≡ Faulty
 unfolding read
 sheet-lower = refl
 
--- a line of a wrong length is SHEET even if it has a J; a J on an earlier line comes before a bad byte on a later one; a
--- tab comes before the J on its own line
+-- a line of a wrong length is SHEET even if it has a J; a J on an earlier line comes before a bad byte on a later one;
+-- a tab comes before the J on its own line
 pub sheet-long-j : read "names 1\na\ncolumns 2\nAJC\ncosts 0\ntree 1\n" ≡ Faulty (Sheet 4)
 unfolding read
 sheet-long-j = refl
@@ -127,8 +127,8 @@ pub sheet-digits : read "names 18446744073709551617\na\ncolumns 0\n\ncosts 0\ntr
 unfolding read
 sheet-digits = refl
 
--- costs: another count; a diagonal that is not 0; a cost of 1,000; a leading zero; three numbers; five; two spaces; a line
--- too few
+-- costs: another count; a diagonal that is not 0; a cost of 1,000; a leading zero; three numbers; five; two spaces; a
+-- line too few
 pub costs-three : read "names 1\na\ncolumns 0\n\ncosts 3\ntree 1\n" ≡ Faulty (Sheet 5)
 unfolding read
 costs-three = refl

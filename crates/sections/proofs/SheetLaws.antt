@@ -21,7 +21,7 @@ use Rattle.costs.specs.Costs.{costsOf}
 use Rattle.costs.proofs.TableLaws.{costs-rules}
 use Rattle.names.specs.Names.{namesOf}
 use Rattle.names.proofs.NamesLaws.{names-count, names-read}
-use Rattle.sections.specs.Sheet.{Rest, onMatrix, refused, treeFrom, costsFrom, columnsFrom, sheetOf}
+use Rattle.sections.specs.Sheet.{Rest, GivesSheet, onMatrix, refused, treeFrom, costsFrom, columnsFrom, sheetOf}
 use Rattle.sections.specs.SheetRead.{RestRead, SheetRead}
 use Rattle.sections.specs.declared.Reading.{Reading}
 use Rattle.sections.specs.declared.Reading.the-variants.{Sound, Faulty}
@@ -111,3 +111,13 @@ module _ (sheet : List ℕ) (s : Sections) where
             named = names .1;
             rest = subst (λ n. RestRead sheet n (columnsFrom sheet t next .costs) s) (sym tips) rest;
           }
+
+-- no second outcome meets the promise of the sheet's reader
+pub sheet-unique : (sheet names : List ℕ) (table : List (List ℕ)) {a b : Reading} {n m : List ℕ} {t u : List (List ℕ)}
+    → GivesSheet (sheetOf sheet) a names n table t → GivesSheet (sheetOf sheet) b names m table u
+    → (a ≡ b) × (n ≡ m) × (t ≡ u)
+sheet-unique sheet names table one two = (
+  one .rest .said ∙ sym (two .rest .said),
+  one .named ∙ sym (two .named),
+  one .rest .priced ∙ sym (two .rest .priced),
+)

@@ -2,8 +2,8 @@
 -- Assumes nothing.
 use Prim.Native.Nat.{_-_}
 use borrow.Author.Needs.{needs}
-use Rattle.lines.proofs.SectionLaws.{Passing, passing-start, passing-on, passing-stop, passing-end, placed-wrong}
-use Rattle.lines.proofs.SectionLaws.{placed-read}
+use Rattle.lines.proofs.Passing.{Passing, passing-start, passing-on, passing-stop, passing-end}
+use Rattle.lines.proofs.SectionSteps.{placed-wrong, placed-read}
 use Rattle.cells.specs.Cells.{rowJudge}
 use Rattle.cells.proofs.read_rows.Statement.{statement}
 use Rattle.cells.proofs.read_rows.Tie as tie

@@ -5,7 +5,7 @@ use mathlib.Core.Path.{sym, ap, _∙_}
 use Prim.Native.Nat.{_-_}
 use native.Mathlib.Omega.{arith}
 use borrow.Author.Needs.{needs}
-use Rattle.lines.proofs.SectionLaws.{Going, going-start, going-on, going-stop, going-end, going-taken}
+use Rattle.lines.proofs.Filling.{Going, going-start, going-on, going-stop, going-end, going-taken}
 use Rattle.costs.specs.Costs.{costItem, costJudge}
 use Rattle.costs.proofs.CostLaws.{cost-row-rules}
 use Rattle.costs.proofs.CostSteps.{cost-wrong, cost-read}
