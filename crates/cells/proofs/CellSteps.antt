@@ -1,25 +1,24 @@
 -- A row of cells and the section of the columns, part by part.
 -- Assumes nothing.
-use mathlib.Core.Bool.{Bool, true, false}
+use mathlib.Core.Bool.{true, false}
 use mathlib.Core.List.{List, []}
-use mathlib.Core.Path.{_≡_, refl, sym, ap, _∙_}
+use mathlib.Core.Path.{_≡_, ap}
 use Prim.Native.Nat.{ℕ, _+_, _-_}
 use lib.Dec.{eqb}
+use Rattle.cells.specs.Cells.{isStates, isSymbol, rowTo, rowOf, rowJudge, matrixOf}
+use Rattle.cells.specs.declared.Matrix.the-variants.{Cells, NoCells}
 use Rattle.lines.specs.Bytes.{bytes, textOf, every}
 use Rattle.lines.specs.Count.{onPlace, countOf}
 use Rattle.lines.specs.Counting.{onCount, onPart}
 use Rattle.lines.specs.Line.{lineOf}
 use Rattle.lines.specs.Section.{item, fault, section}
 use Rattle.lines.specs.declared.Count.the-variants.{Counted, Miscounted}
-use Rattle.lines.specs.declared.Fault.{Fault}
 use Rattle.lines.specs.declared.Fault.the-variants.{Sheet, Symbol}
+use Rattle.lines.specs.declared.Fault.{Fault}
 use Rattle.lines.specs.declared.Part.the-variants.{Read, Wrong}
 use Rattle.lines.specs.declared.Place.the-variants.{At, Nowhere}
-use Rattle.cells.specs.Cells.{isStates, isSymbol, rowTo, rowOf, rowJudge, matrixOf}
-use Rattle.cells.specs.declared.Matrix.the-variants.{Cells, NoCells}
 use Rattle.symbols.specs.Symbol.{symbolOf}
 use Rattle.symbols.specs.declared.Symbol as Symbols
-use Rattle.symbols.specs.declared.Symbol.the-variants.{States, Unlisted}
 
 -- the answer for a byte decides whether it is listed
 pub listed-by : (byte : ℕ) (answer : Symbols.Symbol) → answer ≡ symbolOf byte → isStates answer ≡ isSymbol byte

@@ -4,15 +4,15 @@ use mathlib.Core.Bool.{Bool, true, false}
 use mathlib.Core.List.{List, []}
 use Prim.Native.Nat.{ℕ, _+_, _-_}
 use lib.Dec.{eqb}
-use Rattle.parsimony.specs.Test.{pick}
+use Rattle.cells.specs.declared.Matrix.the-variants.{Cells, NoCells}
+use Rattle.cells.specs.declared.Matrix.{Matrix}
 use Rattle.lines.specs.Bytes.{bytes, textOf, every}
 use Rattle.lines.specs.Count.{onPlace, countOf}
 use Rattle.lines.specs.Counting.{onCount, onPart}
 use Rattle.lines.specs.Line.{lineOf}
 use Rattle.lines.specs.Section.{Item, item, fault, section}
 use Rattle.lines.specs.declared.Fault.the-variants.{Sheet, Symbol}
-use Rattle.cells.specs.declared.Matrix.{Matrix}
-use Rattle.cells.specs.declared.Matrix.the-variants.{Cells, NoCells}
+use Rattle.parsimony.specs.Test.{pick}
 use Rattle.symbols.specs.Symbol.{symbolOf}
 use Rattle.symbols.specs.declared.Symbol as Symbols
 use Rattle.symbols.specs.declared.Symbol.the-variants.{States, Unlisted}

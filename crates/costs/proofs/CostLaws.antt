@@ -9,22 +9,22 @@ use native.Mathlib.Omega.{arith}
 use borrow.Author.Tests.{eqb-true}
 use lib.Dec.{eqb}
 use lib.ListN.{getD}
-use Rattle.parsimony.specs.Test.{pick}
+use Rattle.costs.specs.CostRules.{RowRules}
+use Rattle.costs.specs.Costs.{costRowOf, costCount, costsOf}
+use Rattle.lines.proofs.CountLaws.{field-read}
+use Rattle.lines.proofs.CountingLaws.{counting-read}
 use Rattle.lines.specs.Bytes.{bytes}
 use Rattle.lines.specs.Count.{countOf}
 use Rattle.lines.specs.Counting.{GivesCount, onCount}
 use Rattle.lines.specs.Number.{fieldOf, onNumber}
 use Rattle.lines.specs.Section.{Item, item, fault}
-use Rattle.lines.specs.declared.Count.{Count}
 use Rattle.lines.specs.declared.Count.the-variants.{Counted, Miscounted}
-use Rattle.lines.specs.declared.Fault.{Fault}
+use Rattle.lines.specs.declared.Count.{Count}
 use Rattle.lines.specs.declared.Fault.the-variants.{Sheet}
-use Rattle.lines.specs.declared.Number.{Number}
+use Rattle.lines.specs.declared.Fault.{Fault}
 use Rattle.lines.specs.declared.Number.the-variants.{Value, NoNumber}
-use Rattle.lines.proofs.CountLaws.{field-read}
-use Rattle.lines.proofs.CountingLaws.{counting-read}
-use Rattle.costs.specs.CostRules.{RowRules}
-use Rattle.costs.specs.Costs.{costRowOf, costCount, costsOf}
+use Rattle.lines.specs.declared.Number.{Number}
+use Rattle.parsimony.specs.Test.{pick}
 
 no-item : {A : Type 0} {judged : Item (List ℕ)} {f : Fault} {row : List ℕ} {next : ℕ} → fault f ≡ judged
     → judged ≡ item row next → A

@@ -1,31 +1,24 @@
 -- A row of the cost table, the table and its count, part by part.
 -- Assumes nothing.
-use mathlib.Core.Bool.{Bool, true, false}
 use mathlib.Core.List.{List, [], _∷_}
 use mathlib.Core.Path.{_≡_, refl, sym, ap, _∙_}
-use Prim.Native.Nat.{ℕ, zero, suc, _+_, _≤_, _<_}
+use Prim.Native.Nat.{ℕ, zero, suc}
 use native.Mathlib.Omega.{arith}
-use borrow.Author.Tests.{eq-eqb, ne-eqb, eqb-true}
-use lib.Dec.{eqb}
-use lib.ListN.{length, getD, set}
-use Rattle.parsimony.specs.Test.{pick}
+use borrow.Author.Tests.{eq-eqb, ne-eqb}
+use lib.ListN.{length, set}
+use Rattle.costs.specs.Costs.{costItem, costRowOf, costJudge, unitTable, costTable, costCount}
+use Rattle.costs.specs.declared.CostRow.the-variants.{Costs, NoCosts}
+use Rattle.costs.specs.declared.CostRow.{CostRow}
 use Rattle.lines.specs.Bytes.{bytes}
 use Rattle.lines.specs.Count.{countOf}
 use Rattle.lines.specs.Counting.{onCount}
-use Rattle.lines.specs.Number.{fieldOf, onNumber}
-use Rattle.lines.specs.Section.{Item, item, fault, Gives, section, wrote}
-use Rattle.lines.specs.declared.Count.{Count}
+use Rattle.lines.specs.Section.{item, fault, Gives, section, wrote}
 use Rattle.lines.specs.declared.Count.the-variants.{Counted, Miscounted}
-use Rattle.lines.specs.declared.Fault.{Fault}
+use Rattle.lines.specs.declared.Count.{Count}
 use Rattle.lines.specs.declared.Fault.the-variants.{Sheet}
-use Rattle.lines.specs.declared.Number.{Number}
-use Rattle.lines.specs.declared.Number.the-variants.{Value, NoNumber}
-use Rattle.lines.specs.declared.Part.{Part}
+use Rattle.lines.specs.declared.Fault.{Fault}
 use Rattle.lines.specs.declared.Part.the-variants.{Read}
-use Rattle.lines.proofs.CountLaws.{field-read}
-use Rattle.costs.specs.Costs.{costItem, costRowOf, costJudge, unitTable, costTable, costCount}
-use Rattle.costs.specs.declared.CostRow.{CostRow}
-use Rattle.costs.specs.declared.CostRow.the-variants.{Costs, NoCosts}
+use Rattle.lines.specs.declared.Part.{Part}
 
 -- the unit table over any table of four rows
 pub unit-written : (table : List (List ℕ)) → length table ≡ 4

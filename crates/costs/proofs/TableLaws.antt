@@ -2,17 +2,17 @@
 -- Assumes nothing.
 use mathlib.Core.List.{List, [], _∷_}
 use mathlib.Core.Path.{_≡_, refl, sym, subst, _∙_}
-use Prim.Native.Nat.{ℕ, zero, suc, _+_, _<_, _≤_}
+use Prim.Native.Nat.{ℕ, zero, suc, _+_, _<_}
 use native.Mathlib.Omega.{arith}
 use lib.ListN.{length, getD, take}
 use lib.Seq.{length-take-le}
+use Rattle.costs.specs.CostRules.{RowRules, TableRules}
+use Rattle.costs.specs.Costs.{costJudge, unitTable, costTable, costCount, costsOf}
+use Rattle.lines.proofs.CountingLaws.{counting-read}
+use Rattle.lines.proofs.SectionReads.{section-judged, section-size}
 use Rattle.lines.specs.Section.{section}
 use Rattle.lines.specs.declared.Count.the-variants.{Counted}
 use Rattle.lines.specs.declared.Part.the-variants.{Read}
-use Rattle.lines.proofs.CountingLaws.{counting-read}
-use Rattle.lines.proofs.SectionReads.{section-judged, section-size}
-use Rattle.costs.specs.CostRules.{RowRules, TableRules}
-use Rattle.costs.specs.Costs.{costJudge, unitTable, costTable, costCount, costsOf}
 use Rattle.costs.proofs.CostLaws.{four-costs, cost-row-rules}
 
 -- the unit table keeps them

@@ -1,17 +1,16 @@
 -- A count line and its section, case by case.
 -- Assumes nothing.
-use mathlib.Core.List.{List, []}
-use mathlib.Core.Path.{_≡_, refl, sym, ap, subst, _∙_}
+use mathlib.Core.List.{List}
+use mathlib.Core.Path.{_≡_, refl, ap, subst, _∙_}
 use Prim.Native.Nat.{ℕ}
 use native.Mathlib.Omega.{arith}
-use lib.ListN.{drop}
-use Rattle.lines.specs.Counting.{Counting, GivesCount, counting, withCount}
+use Rattle.lines.specs.Counting.{GivesCount, counting, withCount}
 use Rattle.lines.specs.Section.{Section, Gives, wrote}
-use Rattle.lines.specs.declared.Count.{Count}
 use Rattle.lines.specs.declared.Count.the-variants.{Counted, Miscounted}
+use Rattle.lines.specs.declared.Count.{Count}
 use Rattle.lines.specs.declared.Fault.{Fault}
-use Rattle.lines.specs.declared.Part.{Part}
 use Rattle.lines.specs.declared.Part.the-variants.{Read, Wrong}
+use Rattle.lines.specs.declared.Part.{Part}
 
 module _ {A : Type 0} (go : ℕ → ℕ → Section A) (count : Count) (entry : List A) where
   -- no count: nothing is written

@@ -6,8 +6,8 @@ use mathlib.Core.Path.{_≡_, refl, sym, subst, _∙_}
 use Prim.Native.Nat.{ℕ, zero, suc, _+_, _<_, _≤_}
 use native.Mathlib.Omega.{arith}
 use lib.ListN.{length, getD}
-use Rattle.parsimony.proofs.Order.{by-lt, by-eq}
 use Rattle.lines.specs.Bytes.{textOf, every}
+use Rattle.parsimony.proofs.Order.{by-lt, by-eq}
 use Rattle.lines.proofs.ByteLaws.{every-on, every-off, every-end}
 
 pub no-test : {A : Type 0} → false ≡ true → A

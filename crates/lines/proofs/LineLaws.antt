@@ -3,15 +3,15 @@
 use mathlib.Core.Bool.{Bool, true, false}
 use mathlib.Core.List.{List}
 use mathlib.Core.Path.{_≡_, refl, sym, subst, _∙_}
-use Prim.Native.Nat.{ℕ, zero, suc, _+_, _-_, _<_, _≤_}
+use Prim.Native.Nat.{ℕ, zero, suc, _+_, _<_, _≤_}
 use native.Mathlib.Omega.{arith}
 use lib.ListN.{length, getD}
-use Rattle.parsimony.proofs.Order.{by-lt, by-eq}
 use Rattle.lines.specs.Bytes.{within}
 use Rattle.lines.specs.IsLine.{IsLine}
 use Rattle.lines.specs.Line.{lineOf}
-use Rattle.lines.specs.declared.Place.{Place}
 use Rattle.lines.specs.declared.Place.the-variants.{At, Nowhere}
+use Rattle.lines.specs.declared.Place.{Place}
+use Rattle.parsimony.proofs.Order.{by-lt, by-eq}
 use Rattle.lines.proofs.ByteLaws.{within-told, within-yes}
 use Rattle.lines.proofs.LineSteps.{line-stop, line-on, line-bad, line-past}
 

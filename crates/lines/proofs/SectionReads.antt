@@ -2,15 +2,15 @@
 -- section that is read has an item for each line; and a section that is refused has the items before the line at fault.
 -- Assumes nothing.
 use mathlib.Core.List.{List, [], _∷_, _++_, append-assoc, append-nil}
-use mathlib.Core.Path.{_≡_, refl, sym, ap, subst, _∙_}
+use mathlib.Core.Path.{_≡_, refl, sym, subst, _∙_}
 use Prim.Native.Nat.{ℕ, zero, suc, _+_, _<_, _≤_}
 use native.Mathlib.Omega.{arith}
 use lib.ListN.{length, getD, take, length-append}
 use lib.Seq.{take-append-seam, getD-append-seam}
-use Rattle.parsimony.proofs.Order.{by-eq}
-use Rattle.lines.specs.Section.{Item, item, fault, Section, follow, section}
+use Rattle.lines.specs.Section.{Item, item, fault, follow, section}
 use Rattle.lines.specs.declared.Fault.{Fault}
 use Rattle.lines.specs.declared.Part.the-variants.{Read, Wrong}
+use Rattle.parsimony.proofs.Order.{by-eq}
 
 -- item i of a section whose first line has the number first: it was judged, at some place of line first + i, by the
 -- items before it

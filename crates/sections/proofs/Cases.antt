@@ -1,16 +1,14 @@
 -- Sheets, sound and refused, by computation.
 -- Assumes nothing.
-use mathlib.Core.List.{List, [], _∷_}
+use mathlib.Core.List.{[], _∷_}
 use mathlib.Core.Path.{_≡_, refl}
-use Prim.Native.Nat.{ℕ}
 use Prim.Native.String.{String}
-use Rattle.lines.specs.Bytes.{bytes}
-use Rattle.lines.specs.declared.Fault.{Fault}
-use Rattle.lines.specs.declared.Fault.the-variants.{Sheet, Symbol}
 use Rattle.costs.specs.Costs.{unitTable}
+use Rattle.lines.specs.Bytes.{bytes}
+use Rattle.lines.specs.declared.Fault.the-variants.{Sheet, Symbol}
 use Rattle.sections.specs.Sheet.{sheetOf}
-use Rattle.sections.specs.declared.Reading.{Reading}
 use Rattle.sections.specs.declared.Reading.the-variants.{Sound, Faulty}
+use Rattle.sections.specs.declared.Reading.{Reading}
 
 -- what is read of a text
 pub read : String → Reading

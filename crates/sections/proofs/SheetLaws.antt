@@ -1,30 +1,29 @@
 -- What a sheet that is read up to its tree line has, in words: its names, cells and costs keep their rules.
 -- Assumes nothing.
 use mathlib.Core.List.{List, []}
-use mathlib.Core.Path.{_≡_, refl, sym, ap, subst, _∙_}
-use Prim.Native.Nat.{ℕ, _+_, _<_, _≤_}
+use mathlib.Core.Path.{_≡_, refl, sym, subst, _∙_}
+use Prim.Native.Nat.{ℕ, _+_}
 use native.Mathlib.Omega.{arith}
-use lib.ListN.{length}
+use Rattle.cells.proofs.CellLaws.{CellsRead, cells-read}
+use Rattle.cells.specs.Cells.{matrixOf}
+use Rattle.cells.specs.declared.Matrix.the-variants.{Cells, NoCells}
+use Rattle.cells.specs.declared.Matrix.{Matrix}
+use Rattle.costs.proofs.TableLaws.{costs-rules}
+use Rattle.costs.specs.CostRules.{TableRules}
+use Rattle.costs.specs.Costs.{costsOf}
+use Rattle.lines.proofs.CountLaws.{count-read}
 use Rattle.lines.specs.Bytes.{bytes}
 use Rattle.lines.specs.Count.{countOf}
 use Rattle.lines.specs.Counting.{onCount}
-use Rattle.lines.specs.declared.Count.{Count}
 use Rattle.lines.specs.declared.Count.the-variants.{Counted, Miscounted}
+use Rattle.lines.specs.declared.Count.{Count}
 use Rattle.lines.specs.declared.Fault.{Fault}
-use Rattle.lines.proofs.CountLaws.{count-read}
-use Rattle.cells.specs.Cells.{matrixOf}
-use Rattle.cells.specs.declared.Matrix.{Matrix}
-use Rattle.cells.specs.declared.Matrix.the-variants.{Cells, NoCells}
-use Rattle.cells.proofs.CellLaws.{CellsRead, cells-read}
-use Rattle.costs.specs.CostRules.{TableRules}
-use Rattle.costs.specs.Costs.{costsOf}
-use Rattle.costs.proofs.TableLaws.{costs-rules}
-use Rattle.names.specs.Names.{namesOf}
 use Rattle.names.proofs.NamesLaws.{names-count, names-read}
+use Rattle.names.specs.Names.{namesOf}
 use Rattle.sections.specs.Sheet.{Rest, GivesSheet, onMatrix, refused, treeFrom, costsFrom, columnsFrom, sheetOf}
 use Rattle.sections.specs.SheetRead.{RestRead, SheetRead}
-use Rattle.sections.specs.declared.Reading.{Reading}
 use Rattle.sections.specs.declared.Reading.the-variants.{Sound, Faulty}
+use Rattle.sections.specs.declared.Reading.{Reading}
 use Rattle.sections.specs.declared.Sections.{Sections}
 
 not-sound : {A : Type 0} {f : Fault} {s : Sections} → Faulty f ≡ Sound s → A

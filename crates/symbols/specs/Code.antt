@@ -3,8 +3,8 @@
 use mathlib.Core.List.{List, [], _∷_}
 use Prim.Native.Char.{Char, code}
 use Prim.Native.Nat.{ℕ, _+_}
-use Prim.Native.String.{String}
 use Prim.Native.String as Text
+use Prim.Native.String.{String}
 use lib.Dec.{eqb}
 use Rattle.parsimony.specs.Test.{pick}
 
