@@ -45,15 +45,6 @@ pub symbol-not : (byte : ℕ) → isSymbol byte ≡ false → symbolOf byte ≡ 
 unfolding isSymbol
 symbol-not byte e = states-not (symbolOf byte) e
 
-no-item : {A : Type 0} {judged : Item ℕ} {f : Fault} {a next : ℕ} → fault f ≡ judged → judged ≡ item a next → A
-no-item h e = let z : _≡_ {A = ℕ} 0 1 = cc in absurd (omega arith)
-
-same-next : {judged : Item ℕ} {a b i next : ℕ} → item a i ≡ judged → judged ≡ item b next → i ≡ next
-same-next h e = cc
-
-same-fault : {judged : Item ℕ} {f g : Fault} → fault f ≡ judged → judged ≡ fault g → g ≡ f
-same-fault h e = cc
-
 -- what the line at a place is: a row, and the next line after it; or a fault
 pub data RowIs (sheet : List ℕ) (c at line : ℕ) : Item ℕ → Type 0 where
   sound : (next : ℕ) → next ≡ at + (c + 1) → IsRow sheet c at → RowIs sheet c at line (item at next)

@@ -11,34 +11,20 @@ use lib.Dec.{eqb}
 use lib.ListN.{getD}
 use Rattle.costs.specs.CostRules.{RowRules}
 use Rattle.costs.specs.Costs.{costRowOf, costCount, costsOf}
+use Rattle.lines.proofs.Answers.{no-item, same-item, no-count, same-count}
 use Rattle.lines.proofs.CountLaws.{field-read}
 use Rattle.lines.proofs.CountingLaws.{counting-read}
 use Rattle.lines.specs.Bytes.{bytes}
 use Rattle.lines.specs.Count.{countOf}
 use Rattle.lines.specs.Counting.{GivesCount, onCount}
 use Rattle.lines.specs.Number.{fieldOf, onNumber}
-use Rattle.lines.specs.Section.{Item, item, fault}
+use Rattle.lines.specs.Section.{item, fault}
 use Rattle.lines.specs.declared.Count.the-variants.{Counted, Miscounted}
 use Rattle.lines.specs.declared.Count.{Count}
 use Rattle.lines.specs.declared.Fault.the-variants.{Sheet}
-use Rattle.lines.specs.declared.Fault.{Fault}
 use Rattle.lines.specs.declared.Number.the-variants.{Value, NoNumber}
 use Rattle.lines.specs.declared.Number.{Number}
 use Rattle.parsimony.specs.Test.{pick}
-
-no-item : {A : Type 0} {judged : Item (List ℕ)} {f : Fault} {row : List ℕ} {next : ℕ} → fault f ≡ judged
-    → judged ≡ item row next → A
-no-item h e = let z : _≡_ {A = ℕ} 0 1 = cc in absurd (omega arith)
-
-same-row : {judged : Item (List ℕ)} (first row : List ℕ) {i next : ℕ} → item first i ≡ judged → judged ≡ item row next
-    → first ≡ row
-same-row first row h e = cc
-
-no-count : {A : Type 0} {f : Fault} {k next : ℕ} → Miscounted f ≡ Counted k next → A
-no-count e = let z : _≡_ {A = ℕ} 0 1 = cc in absurd (omega arith)
-
-same-count : {n i k next : ℕ} → Counted n i ≡ Counted k next → n ≡ k
-same-count e = cc
 
 -- four costs of at most 999, of which the x-th is 0
 pub four-costs : (x a b c d : ℕ) → a ≤ 999 → b ≤ 999 → c ≤ 999 → d ≤ 999 → getD (a ∷ b ∷ c ∷ d ∷ []) x 0 ≡ 0
@@ -62,7 +48,7 @@ cost-row-rules sheet x at line row next read = by-a (fieldOf 999 32 sheet at) re
         → eqb (getD (a ∷ b ∷ c ∷ d ∷ []) x 0) 0 ≡ t
         → pick t (item (a ∷ b ∷ c ∷ d ∷ []) i) (fault (Sheet line)) ≡ item row next → RowRules x row
     by-test a b c d i ha hb hc hd true t e =
-        subst (RowRules x) (same-row (a ∷ b ∷ c ∷ d ∷ []) row refl e)
+        subst (RowRules x) (sym (same-item refl e))
         (four-costs x a b c d ha hb hc hd (eqb-true (getD (a ∷ b ∷ c ∷ d ∷ []) x 0) 0 t))
     by-test a b c d i ha hb hc hd false t e = no-item refl e
 
@@ -115,13 +101,13 @@ cost-count-is sheet at line k next read = by-count (countOf (bytes "costs ") 0 4
   where
     by-four : (n i : ℕ) (t : Bool) → eqb n 4 ≡ t → pick t (Counted n i) (Miscounted (Sheet line)) ≡ Counted k next
         → (k ≡ 0) ⊎ (k ≡ 4)
-    by-four n i true t e = inr (sym (same-count e) ∙ eqb-true n 4 t)
-    by-four n i false t e = no-count e
+    by-four n i true t e = inr (sym (same-count e .0) ∙ eqb-true n 4 t)
+    by-four n i false t e = no-count refl e
 
     by-zero : (n i : ℕ) (t : Bool) → eqb n 0 ≡ t
         → pick t (Counted n i) (pick (eqb n 4) (Counted n i) (Miscounted (Sheet line))) ≡ Counted k next
         → (k ≡ 0) ⊎ (k ≡ 4)
-    by-zero n i true t e = inl (sym (same-count e) ∙ eqb-true n 0 t)
+    by-zero n i true t e = inl (sym (same-count e .0) ∙ eqb-true n 0 t)
     by-zero n i false t e = by-four n i (eqb n 4) refl e
 
     by-count : (c : Count)
@@ -130,7 +116,7 @@ cost-count-is sheet at line k next read = by-count (countOf (bytes "costs ") 0 4
         ≡ Counted k next
         → (k ≡ 0) ⊎ (k ≡ 4)
     by-count (Counted n i) e = by-zero n i (eqb n 0) refl e
-    by-count (Miscounted f) e = no-count e
+    by-count (Miscounted f) e = no-count refl e
 
 -- the same of the whole section
 pub costs-count : (sheet : List ℕ) (at line k next : ℕ) → costsOf sheet at line .count ≡ Counted k next

@@ -11,6 +11,7 @@ use Rattle.lines.specs.declared.Count.{Count}
 use Rattle.lines.specs.declared.Fault.{Fault}
 use Rattle.lines.specs.declared.Part.the-variants.{Read, Wrong}
 use Rattle.lines.specs.declared.Part.{Part}
+use Rattle.lines.proofs.Answers.{same-count}
 
 module _ {A : Type 0} (go : ℕ → ℕ → Section A) (count : Count) (entry : List A) where
   -- no count: nothing is written
@@ -28,9 +29,6 @@ module _ {A : Type 0} (go : ℕ → ℕ → Section A) (count : Count) (entry : 
   counting-some n next part answer exit e gives a =
       rw e
       (record { said = a ∙ ap (withCount n) (gives .said); written = gives .written })
-
-same-count : {n m i next : ℕ} → Counted n i ≡ Counted m next → (n ≡ m) × (i ≡ next)
-same-count e = (cc, cc)
 
 with-read : (n m next : ℕ) (part : Part) → withCount n part ≡ Counted m next → (n ≡ m) × (part ≡ Read next)
 unfolding withCount

@@ -1,3 +1,4 @@
+pub mod Answers
 pub mod ByteLaws
 pub mod Cases
 pub mod CountLaws

@@ -4,10 +4,10 @@ use mathlib.Core.Bool.{Bool, true, false}
 use mathlib.Core.List.{List}
 use mathlib.Core.Path.{_≡_, refl, sym, _∙_}
 use Prim.Native.Nat.{ℕ}
-use native.Mathlib.Omega.{arith}
+use Rattle.lines.proofs.Answers.{no-item, same-item, same-fault}
 use Rattle.lines.specs.Bytes.{textOf}
 use Rattle.lines.specs.Line.{lineOf}
-use Rattle.lines.specs.Section.{Item, item, fault}
+use Rattle.lines.specs.Section.{item, fault}
 use Rattle.lines.specs.declared.Fault.the-variants.{Sheet}
 use Rattle.lines.specs.declared.Fault.{Fault}
 use Rattle.lines.specs.declared.Place.the-variants.{At, Nowhere}
@@ -23,15 +23,6 @@ pub record NameRead (sheet earlier : List ℕ) (at place : ℕ) : Type 0 where
   pub ends : lineOf sheet at ≡ At end
   pub name : isName (textOf sheet at end) ≡ true
   pub new : isNew sheet earlier at ≡ true
-
-pub no-item : {A : Type 0} {judged : Item ℕ} {f : Fault} {a next : ℕ} → fault f ≡ judged → judged ≡ item a next → A
-no-item h e = let z : _≡_ {A = ℕ} 0 1 = cc in absurd (omega arith)
-
-same-item : {judged : Item ℕ} {a b i next : ℕ} → item a i ≡ judged → judged ≡ item b next → b ≡ a
-same-item h e = cc
-
-same-fault : {judged : Item ℕ} {f g : Fault} → fault f ≡ judged → judged ≡ fault g → g ≡ f
-same-fault h e = cc
 
 pub name-item : (sheet earlier : List ℕ) (at line place next : ℕ) → nameOf sheet earlier at line ≡ item place next
     → NameRead sheet earlier at place

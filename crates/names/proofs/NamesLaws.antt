@@ -8,6 +8,7 @@ use Prim.Native.Nat.{ℕ, _+_, _<_, _≤_}
 use native.Mathlib.Omega.{arith}
 use lib.ListN.{length, getD, take, drop}
 use lib.Seq.{length-take-le, getD-take}
+use Rattle.lines.proofs.Answers.{no-item}
 use Rattle.lines.proofs.CountLaws.{count-read}
 use Rattle.lines.proofs.CountingLaws.{counting-read}
 use Rattle.lines.proofs.EveryLaws.{no-test}
@@ -26,7 +27,7 @@ use Rattle.lines.specs.declared.Part.the-variants.{Wrong}
 use Rattle.names.specs.IsName.{IsNameLine, SameLine, AllNames}
 use Rattle.names.specs.Name.{sameText}
 use Rattle.names.specs.Names.{nameOf, namesOf}
-use Rattle.names.proofs.NameJudged.{NameRead, no-item, name-item, name-fault}
+use Rattle.names.proofs.NameJudged.{NameRead, name-item, name-fault}
 use Rattle.names.proofs.NameSteps.{name-whole}
 use Rattle.names.proofs.NameWords.{name-line-told, name-line-found}
 use Rattle.names.proofs.SameWords.{same-told, same-found, new-told, new-found}
