@@ -14,11 +14,11 @@ use Rattle.lines.specs.Bytes.{bytes}
 use Rattle.lines.specs.Count.{countOf}
 use Rattle.lines.specs.Counting.{onCount, onPart}
 use Rattle.lines.specs.Section.{Item, fault, follow, section}
-use Rattle.lines.specs.declared.Count.the-variants.{Counted, Miscounted}
 use Rattle.lines.specs.declared.Count.{Count}
+use Rattle.lines.specs.declared.Count.the-variants.{Counted, Miscounted}
 use Rattle.lines.specs.declared.Fault.{Fault}
-use Rattle.lines.specs.declared.Part.the-variants.{Read, Wrong}
 use Rattle.lines.specs.declared.Part.{Part}
+use Rattle.lines.specs.declared.Part.the-variants.{Read, Wrong}
 use Rattle.cells.proofs.RowLaws.{RowIs, sound, wrong, row-is}
 
 module _ (sheet : List ℕ) (c : ℕ) where

@@ -13,8 +13,8 @@ use Rattle.lines.specs.Counting.{onCount, onPart}
 use Rattle.lines.specs.Line.{lineOf}
 use Rattle.lines.specs.Section.{item, fault, section}
 use Rattle.lines.specs.declared.Count.the-variants.{Counted, Miscounted}
-use Rattle.lines.specs.declared.Fault.the-variants.{Sheet, Symbol}
 use Rattle.lines.specs.declared.Fault.{Fault}
+use Rattle.lines.specs.declared.Fault.the-variants.{Sheet, Symbol}
 use Rattle.lines.specs.declared.Part.the-variants.{Read, Wrong}
 use Rattle.lines.specs.declared.Place.the-variants.{At, Nowhere}
 use Rattle.symbols.specs.Symbol.{symbolOf}

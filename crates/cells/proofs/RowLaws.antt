@@ -17,10 +17,10 @@ use Rattle.lines.specs.Bytes.{bytes, textOf, every}
 use Rattle.lines.specs.IsLine.{IsLine}
 use Rattle.lines.specs.Line.{lineOf}
 use Rattle.lines.specs.Section.{Item, item, fault}
-use Rattle.lines.specs.declared.Fault.the-variants.{Sheet, Symbol}
 use Rattle.lines.specs.declared.Fault.{Fault}
-use Rattle.lines.specs.declared.Place.the-variants.{At, Nowhere}
+use Rattle.lines.specs.declared.Fault.the-variants.{Sheet, Symbol}
 use Rattle.lines.specs.declared.Place.{Place}
+use Rattle.lines.specs.declared.Place.the-variants.{At, Nowhere}
 use Rattle.symbols.specs.Symbol.{symbolOf}
 use Rattle.symbols.specs.declared.Symbol as Symbols
 use Rattle.symbols.specs.declared.Symbol.the-variants.{States, Unlisted}

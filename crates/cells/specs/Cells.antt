@@ -4,8 +4,8 @@ use mathlib.Core.Bool.{Bool, true, false}
 use mathlib.Core.List.{List, []}
 use Prim.Native.Nat.{ℕ, _+_, _-_}
 use lib.Dec.{eqb}
-use Rattle.cells.specs.declared.Matrix.the-variants.{Cells, NoCells}
 use Rattle.cells.specs.declared.Matrix.{Matrix}
+use Rattle.cells.specs.declared.Matrix.the-variants.{Cells, NoCells}
 use Rattle.lines.specs.Bytes.{bytes, textOf, every}
 use Rattle.lines.specs.Count.{onPlace, countOf}
 use Rattle.lines.specs.Counting.{onCount, onPart}

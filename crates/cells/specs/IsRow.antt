@@ -6,8 +6,8 @@ use mathlib.Core.Path.{_≡_}
 use Prim.Native.Nat.{ℕ, _+_, _*_, _<_}
 use lib.ListN.{getD}
 use Rattle.lines.specs.IsLine.{IsLine}
-use Rattle.lines.specs.declared.Fault.the-variants.{Sheet, Symbol}
 use Rattle.lines.specs.declared.Fault.{Fault}
+use Rattle.lines.specs.declared.Fault.the-variants.{Sheet, Symbol}
 use Rattle.symbols.specs.Symbol.{symbolOf}
 use Rattle.symbols.specs.declared.Symbol.the-variants.{States, Unlisted}
 

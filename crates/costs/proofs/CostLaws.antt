@@ -19,11 +19,11 @@ use Rattle.lines.specs.Count.{countOf}
 use Rattle.lines.specs.Counting.{GivesCount, onCount}
 use Rattle.lines.specs.Number.{fieldOf, onNumber}
 use Rattle.lines.specs.Section.{item, fault}
-use Rattle.lines.specs.declared.Count.the-variants.{Counted, Miscounted}
 use Rattle.lines.specs.declared.Count.{Count}
+use Rattle.lines.specs.declared.Count.the-variants.{Counted, Miscounted}
 use Rattle.lines.specs.declared.Fault.the-variants.{Sheet}
-use Rattle.lines.specs.declared.Number.the-variants.{Value, NoNumber}
 use Rattle.lines.specs.declared.Number.{Number}
+use Rattle.lines.specs.declared.Number.the-variants.{Value, NoNumber}
 use Rattle.parsimony.specs.Test.{pick}
 
 -- four costs of at most 999, of which the x-th is 0

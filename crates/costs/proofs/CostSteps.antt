@@ -7,18 +7,18 @@ use native.Mathlib.Omega.{arith}
 use borrow.Author.Tests.{eq-eqb, ne-eqb}
 use lib.ListN.{length, set}
 use Rattle.costs.specs.Costs.{costItem, costRowOf, costJudge, unitTable, costTable, costCount}
-use Rattle.costs.specs.declared.CostRow.the-variants.{Costs, NoCosts}
 use Rattle.costs.specs.declared.CostRow.{CostRow}
+use Rattle.costs.specs.declared.CostRow.the-variants.{Costs, NoCosts}
 use Rattle.lines.specs.Bytes.{bytes}
 use Rattle.lines.specs.Count.{countOf}
 use Rattle.lines.specs.Counting.{onCount}
 use Rattle.lines.specs.Section.{item, fault, Gives, section, wrote}
-use Rattle.lines.specs.declared.Count.the-variants.{Counted, Miscounted}
 use Rattle.lines.specs.declared.Count.{Count}
-use Rattle.lines.specs.declared.Fault.the-variants.{Sheet}
+use Rattle.lines.specs.declared.Count.the-variants.{Counted, Miscounted}
 use Rattle.lines.specs.declared.Fault.{Fault}
-use Rattle.lines.specs.declared.Part.the-variants.{Read}
+use Rattle.lines.specs.declared.Fault.the-variants.{Sheet}
 use Rattle.lines.specs.declared.Part.{Part}
+use Rattle.lines.specs.declared.Part.the-variants.{Read}
 
 -- the unit table over any table of four rows
 pub unit-written : (table : List (List ℕ)) → length table ≡ 4

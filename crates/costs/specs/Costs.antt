@@ -5,15 +5,15 @@ use mathlib.Core.List.{List, [], _∷_}
 use Prim.Native.Nat.{ℕ, zero, suc, _+_}
 use lib.Dec.{eqb}
 use lib.ListN.{length, getD}
-use Rattle.costs.specs.declared.CostRow.the-variants.{Costs, NoCosts}
 use Rattle.costs.specs.declared.CostRow.{CostRow}
+use Rattle.costs.specs.declared.CostRow.the-variants.{Costs, NoCosts}
 use Rattle.lines.specs.Bytes.{bytes}
 use Rattle.lines.specs.Count.{countOf}
 use Rattle.lines.specs.Counting.{Counting, counting, onCount}
 use Rattle.lines.specs.Number.{fieldOf, onNumber}
 use Rattle.lines.specs.Section.{Item, item, fault, Section, section}
-use Rattle.lines.specs.declared.Count.the-variants.{Counted, Miscounted}
 use Rattle.lines.specs.declared.Count.{Count}
+use Rattle.lines.specs.declared.Count.the-variants.{Counted, Miscounted}
 use Rattle.lines.specs.declared.Fault.the-variants.{Sheet}
 use Rattle.lines.specs.declared.Part.the-variants.{Read}
 use Rattle.parsimony.specs.Test.{pick}

@@ -12,10 +12,10 @@ use Rattle.lines.specs.Count.{countOf}
 use Rattle.lines.specs.Number.{limit, numberIn, numberOf, fieldOf}
 use Rattle.lines.specs.Word.{wordOf}
 use Rattle.lines.specs.declared.Count.the-variants.{Counted}
-use Rattle.lines.specs.declared.Number.the-variants.{Value, NoNumber}
 use Rattle.lines.specs.declared.Number.{Number}
-use Rattle.lines.specs.declared.Place.the-variants.{At, Nowhere}
+use Rattle.lines.specs.declared.Number.the-variants.{Value, NoNumber}
 use Rattle.lines.specs.declared.Place.{Place}
+use Rattle.lines.specs.declared.Place.the-variants.{At, Nowhere}
 use Rattle.parsimony.proofs.Order.{by-lt, by-eq}
 use Rattle.parsimony.specs.Test.{pick}
 use Rattle.lines.proofs.Answers.{no-count}

@@ -6,11 +6,11 @@ use Prim.Native.Nat.{ℕ}
 use native.Mathlib.Omega.{arith}
 use Rattle.lines.specs.Counting.{GivesCount, counting, withCount}
 use Rattle.lines.specs.Section.{Section, Gives, wrote}
-use Rattle.lines.specs.declared.Count.the-variants.{Counted, Miscounted}
 use Rattle.lines.specs.declared.Count.{Count}
+use Rattle.lines.specs.declared.Count.the-variants.{Counted, Miscounted}
 use Rattle.lines.specs.declared.Fault.{Fault}
-use Rattle.lines.specs.declared.Part.the-variants.{Read, Wrong}
 use Rattle.lines.specs.declared.Part.{Part}
+use Rattle.lines.specs.declared.Part.the-variants.{Read, Wrong}
 use Rattle.lines.proofs.Answers.{same-count}
 
 module _ {A : Type 0} (go : ℕ → ℕ → Section A) (count : Count) (entry : List A) where

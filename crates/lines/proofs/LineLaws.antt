@@ -9,8 +9,8 @@ use lib.ListN.{length, getD}
 use Rattle.lines.specs.Bytes.{within}
 use Rattle.lines.specs.IsLine.{IsLine}
 use Rattle.lines.specs.Line.{lineOf}
-use Rattle.lines.specs.declared.Place.the-variants.{At, Nowhere}
 use Rattle.lines.specs.declared.Place.{Place}
+use Rattle.lines.specs.declared.Place.the-variants.{At, Nowhere}
 use Rattle.parsimony.proofs.Order.{by-lt, by-eq}
 use Rattle.lines.proofs.ByteLaws.{within-told, within-yes}
 use Rattle.lines.proofs.LineSteps.{line-stop, line-on, line-bad, line-past}

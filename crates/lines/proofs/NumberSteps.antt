@@ -10,8 +10,8 @@ use lib.ListN.{length, getD, drop}
 use Rattle.lines.specs.Bytes.{within}
 use Rattle.lines.specs.Number.{isDigit, digitsIn, limit, digitsOf, numberIn, numberOf, onNumber, stopIn}
 use Rattle.lines.specs.Number.{fieldOf}
-use Rattle.lines.specs.declared.Number.the-variants.{Value, NoNumber}
 use Rattle.lines.specs.declared.Number.{Number}
+use Rattle.lines.specs.declared.Number.the-variants.{Value, NoNumber}
 use Rattle.parsimony.proofs.Order.{pick-true, pick-false}
 use Rattle.parsimony.specs.Test.{pick}
 use Rattle.lines.proofs.ByteLaws.{drop-below, drop-past}

@@ -6,8 +6,8 @@ use Prim.Native.Nat.{ℕ, suc, _+_, _-_, _<_, _≤_}
 use native.Mathlib.Omega.{arith}
 use Rattle.lines.specs.Section.{Item, item, fault, placed, follow, section}
 use Rattle.lines.specs.declared.Fault.{Fault}
-use Rattle.lines.specs.declared.Part.the-variants.{Read, Wrong}
 use Rattle.lines.specs.declared.Part.{Part}
+use Rattle.lines.specs.declared.Part.the-variants.{Read, Wrong}
 
 -- a line that was judged by an answer: a fault, or an item
 pub placed-wrong : (at : ℕ) (answer : Part) {judged : Item ℕ} (f : Fault) → placed at answer ≡ judged → answer ≡ Wrong f

@@ -5,11 +5,11 @@ use Prim.Native.Nat.{ℕ}
 use lib.Dec.{ltb}
 use Rattle.lines.specs.Number.{fieldOf, onNumber}
 use Rattle.lines.specs.Word.{wordOf}
-use Rattle.lines.specs.declared.Count.the-variants.{Counted, Miscounted}
 use Rattle.lines.specs.declared.Count.{Count}
+use Rattle.lines.specs.declared.Count.the-variants.{Counted, Miscounted}
 use Rattle.lines.specs.declared.Fault.the-variants.{Sheet}
-use Rattle.lines.specs.declared.Place.the-variants.{At, Nowhere}
 use Rattle.lines.specs.declared.Place.{Place}
+use Rattle.lines.specs.declared.Place.the-variants.{At, Nowhere}
 use Rattle.parsimony.specs.Test.{pick}
 
 -- what follows from a place; something else where there is none

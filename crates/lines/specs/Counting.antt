@@ -4,11 +4,11 @@ use mathlib.Core.List.{List, []}
 use mathlib.Core.Path.{_≡_}
 use Prim.Native.Nat.{ℕ}
 use Rattle.lines.specs.Section.{Section, wrote}
-use Rattle.lines.specs.declared.Count.the-variants.{Counted, Miscounted}
 use Rattle.lines.specs.declared.Count.{Count}
+use Rattle.lines.specs.declared.Count.the-variants.{Counted, Miscounted}
 use Rattle.lines.specs.declared.Fault.{Fault}
-use Rattle.lines.specs.declared.Part.the-variants.{Read, Wrong}
 use Rattle.lines.specs.declared.Part.{Part}
+use Rattle.lines.specs.declared.Part.the-variants.{Read, Wrong}
 
 -- what a count line and its section give: the items of its lines up to the first fault, and the count with the place
 -- to go on from or that fault

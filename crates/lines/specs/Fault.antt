@@ -1,8 +1,8 @@
 -- The faults of a sheet as the paper numbers them, each with the line that it carries.
 -- Assumes nothing.
 use Prim.Native.Nat.{ℕ}
-use Rattle.lines.specs.declared.Fault.the-variants.{Sheet, Symbol, TreeText}
 use Rattle.lines.specs.declared.Fault.{Fault}
+use Rattle.lines.specs.declared.Fault.the-variants.{Sheet, Symbol, TreeText}
 
 -- 9 SHEET, 10 SYMBOL, 11 TREE TEXT
 abbrev pub faultNumber : Fault → ℕ

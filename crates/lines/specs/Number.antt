@@ -6,8 +6,8 @@ use Prim.Native.Nat.{ℕ, _+_, _-_, _*_}
 use lib.Dec.{eqb, leb}
 use lib.ListN.{drop}
 use Rattle.lines.specs.Bytes.{within}
-use Rattle.lines.specs.declared.Number.the-variants.{Value, NoNumber}
 use Rattle.lines.specs.declared.Number.{Number}
+use Rattle.lines.specs.declared.Number.the-variants.{Value, NoNumber}
 use Rattle.parsimony.specs.Test.{pick}
 
 -- the test that a byte is a digit

@@ -4,8 +4,8 @@ use mathlib.Core.List.{List, [], _∷_}
 use Prim.Native.Nat.{ℕ, _+_}
 use lib.Dec.{eqb}
 use lib.ListN.{drop}
-use Rattle.lines.specs.declared.Place.the-variants.{At, Nowhere}
 use Rattle.lines.specs.declared.Place.{Place}
+use Rattle.lines.specs.declared.Place.the-variants.{At, Nowhere}
 use Rattle.parsimony.specs.Test.{pick}
 
 -- the place after the word, where some bytes, counted from place i, begin with it

@@ -7,8 +7,8 @@ use Rattle.costs.specs.Costs.{unitTable}
 use Rattle.lines.specs.Bytes.{bytes}
 use Rattle.lines.specs.declared.Fault.the-variants.{Sheet, Symbol}
 use Rattle.sections.specs.Sheet.{sheetOf}
-use Rattle.sections.specs.declared.Reading.the-variants.{Sound, Faulty}
 use Rattle.sections.specs.declared.Reading.{Reading}
+use Rattle.sections.specs.declared.Reading.the-variants.{Sound, Faulty}
 
 -- what is read of a text
 pub read : String → Reading

@@ -6,8 +6,8 @@ use Prim.Native.Nat.{ℕ, _+_}
 use native.Mathlib.Omega.{arith}
 use Rattle.cells.proofs.CellLaws.{CellsRead, cells-read}
 use Rattle.cells.specs.Cells.{matrixOf}
-use Rattle.cells.specs.declared.Matrix.the-variants.{Cells, NoCells}
 use Rattle.cells.specs.declared.Matrix.{Matrix}
+use Rattle.cells.specs.declared.Matrix.the-variants.{Cells, NoCells}
 use Rattle.costs.proofs.TableLaws.{costs-rules}
 use Rattle.costs.specs.CostRules.{TableRules}
 use Rattle.costs.specs.Costs.{costsOf}
@@ -15,15 +15,15 @@ use Rattle.lines.proofs.CountLaws.{count-read}
 use Rattle.lines.specs.Bytes.{bytes}
 use Rattle.lines.specs.Count.{countOf}
 use Rattle.lines.specs.Counting.{onCount}
-use Rattle.lines.specs.declared.Count.the-variants.{Counted, Miscounted}
 use Rattle.lines.specs.declared.Count.{Count}
+use Rattle.lines.specs.declared.Count.the-variants.{Counted, Miscounted}
 use Rattle.lines.specs.declared.Fault.{Fault}
 use Rattle.names.proofs.NamesLaws.{names-count, names-read}
 use Rattle.names.specs.Names.{namesOf}
 use Rattle.sections.specs.Sheet.{Rest, GivesSheet, onMatrix, refused, treeFrom, costsFrom, columnsFrom, sheetOf}
 use Rattle.sections.specs.SheetRead.{RestRead, SheetRead}
-use Rattle.sections.specs.declared.Reading.the-variants.{Sound, Faulty}
 use Rattle.sections.specs.declared.Reading.{Reading}
+use Rattle.sections.specs.declared.Reading.the-variants.{Sound, Faulty}
 use Rattle.sections.specs.declared.Sections.{Sections}
 
 not-sound : {A : Type 0} {f : Fault} {s : Sections} → Faulty f ≡ Sound s → A

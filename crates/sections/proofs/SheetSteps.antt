@@ -4,21 +4,21 @@ use mathlib.Core.List.{List, []}
 use mathlib.Core.Path.{_≡_, refl, sym, ap, _∙_}
 use Prim.Native.Nat.{ℕ, _+_}
 use Rattle.cells.specs.Cells.{matrixOf}
-use Rattle.cells.specs.declared.Matrix.the-variants.{Cells, NoCells}
 use Rattle.cells.specs.declared.Matrix.{Matrix}
+use Rattle.cells.specs.declared.Matrix.the-variants.{Cells, NoCells}
 use Rattle.costs.specs.Costs.{costsOf}
 use Rattle.lines.specs.Bytes.{bytes}
 use Rattle.lines.specs.Count.{countOf}
 use Rattle.lines.specs.Counting.{GivesCount, onCount}
 use Rattle.lines.specs.Section.{wrote}
-use Rattle.lines.specs.declared.Count.the-variants.{Counted, Miscounted}
 use Rattle.lines.specs.declared.Count.{Count}
+use Rattle.lines.specs.declared.Count.the-variants.{Counted, Miscounted}
 use Rattle.lines.specs.declared.Fault.{Fault}
 use Rattle.names.specs.Names.{namesOf}
 use Rattle.sections.specs.Sheet.{GivesRest, GivesSheet, onMatrix, refused, treeFrom, costsFrom, columnsFrom}
 use Rattle.sections.specs.Sheet.{sheetOf}
-use Rattle.sections.specs.declared.Reading.the-variants.{Sound, Faulty}
 use Rattle.sections.specs.declared.Reading.{Reading}
+use Rattle.sections.specs.declared.Reading.the-variants.{Sound, Faulty}
 
 count-wrong {ℓ} : {A : Type ℓ} (count : Count) (f : Fault) (bad : Fault → A) (go : ℕ → ℕ → A) → count ≡ Miscounted f
     → onCount count bad go ≡ bad f

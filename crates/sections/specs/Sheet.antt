@@ -4,8 +4,8 @@ use mathlib.Core.List.{List, []}
 use mathlib.Core.Path.{_≡_}
 use Prim.Native.Nat.{ℕ, _+_}
 use Rattle.cells.specs.Cells.{matrixOf}
-use Rattle.cells.specs.declared.Matrix.the-variants.{Cells, NoCells}
 use Rattle.cells.specs.declared.Matrix.{Matrix}
+use Rattle.cells.specs.declared.Matrix.the-variants.{Cells, NoCells}
 use Rattle.costs.specs.Costs.{costsOf}
 use Rattle.lines.specs.Bytes.{bytes}
 use Rattle.lines.specs.Count.{countOf}
@@ -13,8 +13,8 @@ use Rattle.lines.specs.Counting.{onCount}
 use Rattle.lines.specs.Section.{wrote}
 use Rattle.lines.specs.declared.Fault.{Fault}
 use Rattle.names.specs.Names.{namesOf}
-use Rattle.sections.specs.declared.Reading.the-variants.{Sound, Faulty}
 use Rattle.sections.specs.declared.Reading.{Reading}
+use Rattle.sections.specs.declared.Reading.the-variants.{Sound, Faulty}
 
 -- what the sheet from some section on gives: the answer, and the rows of its cost table up to the first fault
 pub record Rest : Type 0 where

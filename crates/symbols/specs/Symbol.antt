@@ -2,8 +2,8 @@
 -- Assumes nothing.
 use Prim.Native.Nat.{ℕ, zero, suc}
 use Rattle.symbols.specs.Code.{codeOf}
-use Rattle.symbols.specs.declared.Symbol.the-variants.{States, Unlisted}
 use Rattle.symbols.specs.declared.Symbol.{Symbol}
+use Rattle.symbols.specs.declared.Symbol.the-variants.{States, Unlisted}
 
 -- a set of states, or no symbol where the set is empty
 unfoldable pub answer : ℕ → Symbol
