@@ -5,6 +5,7 @@ ghost use Prim.Native.Nat.{_<_, _≤_};
 ghost use lib.ListN.{length};
 ghost use Rattle.lines.specs.Counting.{GivesCount};
 ghost use Rattle.lines.specs.Section.{Gives, section, wrote};
+ghost use Rattle.costs.specs.CostRules.{Flat};
 ghost use Rattle.costs.specs.Costs.{unitTable, costItem, costRowOf, costJudge, costCount, costTable, costsOf};
 use lines::Count;
 use lines::Fault;
@@ -130,4 +131,32 @@ pub fn costs_section(sheet: &[u8], at: usize, line: usize, table: &mut [[u16; 4]
         Count::Miscounted(fault) => Count::Miscounted(fault),
         Count::Counted(k, next) => with_count(k, read_table(sheet, k, next, line + 1, table)),
     }
+}
+
+// The costs of a table in one list, row after row: the change from x to y stands at x * 4 + y.
+pub fn flat_costs(table: [[u16; 4]; 4]) -> [u16; 16]
+    ensures { λ r. ⌜ Flat table r ⌝ }
+{
+    let a = table[0];
+    let b = table[1];
+    let c = table[2];
+    let d = table[3];
+    [
+        a[0],
+        a[1],
+        a[2],
+        a[3],
+        b[0],
+        b[1],
+        b[2],
+        b[3],
+        c[0],
+        c[1],
+        c[2],
+        c[3],
+        d[0],
+        d[1],
+        d[2],
+        d[3],
+    ]
 }
