@@ -61,7 +61,8 @@ fn read_cost_row(sheet: &[u8], x: usize, at: usize, line: usize) -> CostRow
 // The four lines of the cost table from a place on; each goes into table.
 fn read_cost_rows(sheet: &[u8], at: usize, line: usize, table: &mut [[u16; 4]; 4]) -> Part
     requires { ⌜ (length (now table) ≡ 4) × (line ≤ 100000) ⌝ }
-    ensures { λ r. ⌜ Gives (section (costJudge (now (sheet .entry))) 4 at line []) r (now (table .entry)) (now (table .exit)) ⌝ }
+    ensures { λ r. ⌜ Gives (section (costJudge (now (sheet .entry))) 4 at line []) r
+        (now (table .entry)) (now (table .exit)) ⌝ }
 {
     let mut x = 0;
     let mut place = at;

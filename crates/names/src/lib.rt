@@ -132,7 +132,8 @@ fn read_name(sheet: &[u8], names: &[usize], n: usize, at: usize, line: usize) ->
 // The t name lines from a place on; the place of each name goes into names.
 fn read_names(sheet: &[u8], t: usize, at: usize, line: usize, names: &mut [usize]) -> Part
     requires { ⌜ (t ≤ 512) × (t ≤ length (now names)) × (line ≤ 100000) ⌝ }
-    ensures { λ r. ⌜ Gives (section (nameOf (now (sheet .entry))) t at line []) r (now (names .entry)) (now (names .exit)) ⌝ }
+    ensures { λ r. ⌜ Gives (section (nameOf (now (sheet .entry))) t at line []) r
+        (now (names .entry)) (now (names .exit)) ⌝ }
 {
     let mut i = 0;
     let mut place = at;

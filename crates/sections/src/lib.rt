@@ -37,7 +37,8 @@ fn read_from_costs(
     table: &mut [[u16; 4]; 4],
 ) -> Reading
     requires { ⌜ (t ≤ 512) × (length (now table) ≡ 4) ⌝ }
-    ensures { λ r. ⌜ GivesRest (costsFrom (now (sheet .entry)) t c cells at) r (now (table .entry)) (now (table .exit)) ⌝ }
+    ensures { λ r. ⌜ GivesRest (costsFrom (now (sheet .entry)) t c cells at) r
+        (now (table .entry)) (now (table .exit)) ⌝ }
 {
     match costs_section(sheet, at, t + t + 3, table) {
         Count::Miscounted(fault) => Reading::Faulty(fault),
