@@ -3,15 +3,14 @@
 use mathlib.Core.Bool.{Bool, true, false, not}
 use mathlib.Core.List.{List, [], _∷_}
 use mathlib.Core.Path.{_≡_, refl, sym, _∙_}
-use Prim.Native.Nat.{ℕ, suc, _+_, _-_, _<_, _≤_}
+use Prim.Native.Nat.{ℕ, _+_, _-_, _<_, _≤_}
 use native.Mathlib.Numerals.{add-one}
-use native.Mathlib.Omega.{arith}
 use borrow.Author.Tests.{le-leb, lt-leb, leb-true, not-true, not-false}
 use lib.Dec.{leb}
 use lib.ListN.{length, getD, take, drop, drop-of-length-le}
 use lib.Seq.{drop-cons, slice-cons, length-slice, length-take-le}
-use Rattle.parsimony.specs.Test.{both}
 use Rattle.lines.specs.Bytes.{within, textOf, every}
+use Rattle.parsimony.specs.Test.{both}
 
 -- below the end: a byte, and the sheet from the next place on
 pub drop-below : (sheet : List ℕ) (i : ℕ) → i < length sheet → drop i sheet ≡ getD sheet i 0 ∷ drop (i + 1) sheet
@@ -28,6 +27,7 @@ test-yes {r} e n = sym e ∙ not-false r n
 pub test-no : {r b : Bool} → r ≡ b → not r ≡ true → b ≡ false
 test-no {r} e n = sym e ∙ not-true r n
 
+-- two tests in one
 pub both-true : (a b : Bool) → both a b ≡ true → (a ≡ true) × (b ≡ true)
 unfolding both
 both-true true b e = (refl, e)

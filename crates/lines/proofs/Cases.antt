@@ -65,8 +65,8 @@ pub count-three : countOf (bytes "names ") 1 512 (bytes "names 3\na\n") 0 1 ≡ 
 unfolding countOf bytes
 count-three = refl
 
--- refused: a leading zero, two zeros, a space too many, text after the digits, no digits, another word, a count below the
--- least or above the most, no line end, nothing at all
+-- refused: a leading zero, two zeros, a space too many, text after the digits, no digits, another word, a count below
+-- the least or above the most, no line end, nothing at all
 pub count-leading-zero : countOf (bytes "names ") 1 512 (bytes "names 03\n") 0 1 ≡ Miscounted (Sheet 1)
 unfolding countOf bytes
 count-leading-zero = refl

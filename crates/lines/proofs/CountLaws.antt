@@ -2,24 +2,23 @@
 -- Assumes nothing.
 use mathlib.Core.Bool.{Bool, true, false}
 use mathlib.Core.List.{List}
-use mathlib.Core.Path.{_≡_, refl, sym, _∙_}
-use Prim.Native.Nat.{ℕ, _+_, _<_, _≤_}
+use mathlib.Core.Path.{_≡_, refl, _∙_}
+use Prim.Native.Nat.{ℕ, _+_, _≤_}
 use native.Mathlib.Omega.{arith}
-use borrow.Author.Tests.{leb-true, ltb-false}
-use lib.Dec.{eqb, leb, ltb}
+use borrow.Author.Tests.{leb-true}
+use lib.Dec.{leb}
 use lib.ListN.{length, getD, drop}
-use Rattle.parsimony.specs.Test.{pick}
-use Rattle.parsimony.proofs.Order.{by-lt, by-eq}
-use Rattle.lines.specs.Count.{onPlace, countOf}
-use Rattle.lines.specs.Number.{limit, numberIn, numberOf, onNumber, fieldOf}
+use Rattle.lines.specs.Count.{countOf}
+use Rattle.lines.specs.Number.{limit, numberIn, numberOf, fieldOf}
 use Rattle.lines.specs.Word.{wordOf}
-use Rattle.lines.specs.declared.Count.{Count}
-use Rattle.lines.specs.declared.Count.the-variants.{Counted, Miscounted}
-use Rattle.lines.specs.declared.Fault.the-variants.{Sheet}
+use Rattle.lines.specs.declared.Count.the-variants.{Counted}
 use Rattle.lines.specs.declared.Number.{Number}
 use Rattle.lines.specs.declared.Number.the-variants.{Value, NoNumber}
 use Rattle.lines.specs.declared.Place.{Place}
 use Rattle.lines.specs.declared.Place.the-variants.{At, Nowhere}
+use Rattle.parsimony.proofs.Order.{by-lt, by-eq}
+use Rattle.parsimony.specs.Test.{pick}
+use Rattle.lines.proofs.Answers.{no-count}
 use Rattle.lines.proofs.CountSteps.{count-no-word, count-no-number, count-few, count-whole}
 use Rattle.lines.proofs.NumberSteps.{field-none, field-past, field-other, field-whole}
 
@@ -62,9 +61,6 @@ field-read most stop sheet at n next e = by-number (numberOf most sheet at) refl
         record { small = omega arith; inside = omega arith })
         (λ other. no-value (field-other most stop sheet at m i r h other) e))
         (λ past. no-value (field-past most stop sheet at m i r past) e)
-
-no-count : {A : Type 0} {p : Count} {n next line : ℕ} → Miscounted (Sheet line) ≡ p → p ≡ Counted n next → A
-no-count h e = let z : _≡_ {A = ℕ} 0 1 = cc in absurd (omega arith)
 
 -- a count that is read is in its range, and the place of the next line is within the sheet
 pub record CountRead (least most : ℕ) (sheet : List ℕ) (n next : ℕ) : Type 0 where

@@ -1,10 +1,9 @@
 -- A count line, part by part.
 -- Assumes nothing.
 use mathlib.Core.List.{List}
-use mathlib.Core.Path.{_≡_, refl, sym}
+use mathlib.Core.Path.{_≡_, sym}
 use Prim.Native.Nat.{ℕ, _<_, _≤_}
 use borrow.Author.Tests.{lt-ltb, le-ltb}
-use Rattle.parsimony.proofs.Order.{pick-true, pick-false}
 use Rattle.lines.specs.Count.{onPlace, countOf}
 use Rattle.lines.specs.Number.{fieldOf, onNumber}
 use Rattle.lines.specs.Word.{wordOf}
@@ -12,6 +11,7 @@ use Rattle.lines.specs.declared.Count.the-variants.{Counted, Miscounted}
 use Rattle.lines.specs.declared.Fault.the-variants.{Sheet}
 use Rattle.lines.specs.declared.Number.the-variants.{Value, NoNumber}
 use Rattle.lines.specs.declared.Place.the-variants.{At, Nowhere}
+use Rattle.parsimony.proofs.Order.{pick-true, pick-false}
 
 module _ (word : List ℕ) (least most : ℕ) (sheet : List ℕ) (at line : ℕ) where
   -- no word

@@ -1,17 +1,17 @@
 -- A count line and its section, case by case.
 -- Assumes nothing.
-use mathlib.Core.List.{List, []}
-use mathlib.Core.Path.{_≡_, refl, sym, ap, subst, _∙_}
+use mathlib.Core.List.{List}
+use mathlib.Core.Path.{_≡_, refl, ap, subst, _∙_}
 use Prim.Native.Nat.{ℕ}
 use native.Mathlib.Omega.{arith}
-use lib.ListN.{drop}
-use Rattle.lines.specs.Counting.{Counting, GivesCount, counting, withCount}
+use Rattle.lines.specs.Counting.{GivesCount, counting, withCount}
 use Rattle.lines.specs.Section.{Section, Gives, wrote}
 use Rattle.lines.specs.declared.Count.{Count}
 use Rattle.lines.specs.declared.Count.the-variants.{Counted, Miscounted}
 use Rattle.lines.specs.declared.Fault.{Fault}
 use Rattle.lines.specs.declared.Part.{Part}
 use Rattle.lines.specs.declared.Part.the-variants.{Read, Wrong}
+use Rattle.lines.proofs.Answers.{same-count}
 
 module _ {A : Type 0} (go : ℕ → ℕ → Section A) (count : Count) (entry : List A) where
   -- no count: nothing is written
@@ -30,9 +30,6 @@ module _ {A : Type 0} (go : ℕ → ℕ → Section A) (count : Count) (entry : 
       rw e
       (record { said = a ∙ ap (withCount n) (gives .said); written = gives .written })
 
-same-count : {n m i next : ℕ} → Counted n i ≡ Counted m next → (n ≡ m) × (i ≡ next)
-same-count e = (cc, cc)
-
 with-read : (n m next : ℕ) (part : Part) → withCount n part ≡ Counted m next → (n ≡ m) × (part ≡ Read next)
 unfolding withCount
 with-read n m next (Read i) e = let same = same-count e in (same .0, ap Read (same .1))
@@ -41,7 +38,10 @@ with-read n m next (Wrong f) e = let z : _≡_ {A = ℕ} 0 1 = cc in absurd (ome
 -- a section that is read: its count line is read, and its lines after it
 pub counting-read : {A : Type 0} (go : ℕ → ℕ → Section A) (count : Count) (n next : ℕ)
     → counting count go .count ≡ Counted n next
-    → (from : ℕ) × (count ≡ Counted n from) × (go n from .part ≡ Read next) × (counting count go .items ≡ go n from .items)
+    → (from : ℕ)
+    × (count ≡ Counted n from)
+    × (go n from .part ≡ Read next)
+    × (counting count go .items ≡ go n from .items)
 unfolding counting
 counting-read go (Counted m from) n next e =
     let read = with-read m n next (go m from .part) e in

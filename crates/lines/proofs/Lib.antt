@@ -1,10 +1,15 @@
+pub mod Answers
 pub mod ByteLaws
 pub mod Cases
 pub mod CountLaws
 pub mod CountSteps
 pub mod CountingLaws
+pub mod EveryLaws
+pub mod Filling
 pub mod LineLaws
 pub mod LineSteps
 pub mod NumberSteps
-pub mod SectionLaws
+pub mod Passing
+pub mod SectionReads
+pub mod SectionSteps
 pub mod WordSteps

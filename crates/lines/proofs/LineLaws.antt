@@ -3,15 +3,15 @@
 use mathlib.Core.Bool.{Bool, true, false}
 use mathlib.Core.List.{List}
 use mathlib.Core.Path.{_≡_, refl, sym, subst, _∙_}
-use Prim.Native.Nat.{ℕ, zero, suc, _+_, _-_, _<_, _≤_}
+use Prim.Native.Nat.{ℕ, zero, suc, _+_, _<_, _≤_}
 use native.Mathlib.Omega.{arith}
 use lib.ListN.{length, getD}
-use Rattle.parsimony.proofs.Order.{by-lt, by-eq}
 use Rattle.lines.specs.Bytes.{within}
 use Rattle.lines.specs.IsLine.{IsLine}
 use Rattle.lines.specs.Line.{lineOf}
 use Rattle.lines.specs.declared.Place.{Place}
 use Rattle.lines.specs.declared.Place.the-variants.{At, Nowhere}
+use Rattle.parsimony.proofs.Order.{by-lt, by-eq}
 use Rattle.lines.proofs.ByteLaws.{within-told, within-yes}
 use Rattle.lines.proofs.LineSteps.{line-stop, line-on, line-bad, line-past}
 
@@ -22,7 +22,8 @@ same-end : (p : Place) (i end : ℕ) → At i ≡ p → p ≡ At end → i ≡ e
 same-end p i end a e = cc
 
 -- a byte from 32 to 126 before a line makes a line
-longer : (sheet : List ℕ) (i end : ℕ) → within 32 126 (getD sheet i 0) ≡ true → IsLine sheet (i + 1) end → IsLine sheet i end
+longer : (sheet : List ℕ) (i end : ℕ) → within 32 126 (getD sheet i 0) ≡ true → IsLine sheet (i + 1) end
+    → IsLine sheet i end
 longer sheet i end e line =
     record {
       from = omega (arith, line .from);
@@ -62,7 +63,8 @@ found-by zero sheet i end room line =
     subst (λ (k : ℕ). lineOf sheet k ≡ At end) (sym same) (sym (line-stop sheet end (line .inside) (line .stop)))
 found-by (suc n) sheet i end room line =
     by-eq i end
-    (λ same. subst (λ (k : ℕ). lineOf sheet k ≡ At end) (sym same) (sym (line-stop sheet end (line .inside) (line .stop))))
+    (λ same.
+    subst (λ (k : ℕ). lineOf sheet k ≡ At end) (sym same) (sym (line-stop sheet end (line .inside) (line .stop))))
     (λ other.
     let low : i < end = omega (arith, line .from) in
     let plain = line .plain i (omega arith) low in

@@ -2,14 +2,14 @@
 -- Assumes nothing.
 use mathlib.Core.Bool.{true, false}
 use mathlib.Core.List.{List}
-use mathlib.Core.Path.{_≡_, refl, sym, _∙_}
+use mathlib.Core.Path.{_≡_, sym, _∙_}
 use Prim.Native.Nat.{ℕ, _+_, _<_, _≤_}
 use borrow.Author.Tests.{eq-eqb, ne-eqb}
-use lib.ListN.{length, getD, drop}
-use Rattle.parsimony.proofs.Order.{pick-true, pick-false}
+use lib.ListN.{length, getD}
 use Rattle.lines.specs.Bytes.{within}
 use Rattle.lines.specs.Line.{endIn, lineOf}
 use Rattle.lines.specs.declared.Place.the-variants.{At, Nowhere}
+use Rattle.parsimony.proofs.Order.{pick-true, pick-false}
 use Rattle.lines.proofs.ByteLaws.{drop-below, drop-past}
 
 -- a byte 10: the end

@@ -2,18 +2,18 @@
 -- Assumes nothing.
 use mathlib.Core.Bool.{Bool, true, false}
 use mathlib.Core.List.{List, [], _∷_}
-use mathlib.Core.Path.{_≡_, refl, sym, ap, _∙_}
+use mathlib.Core.Path.{_≡_, sym, ap, _∙_}
 use Prim.Native.Nat.{ℕ, _+_, _-_, _*_, _<_, _≤_}
 use native.Mathlib.Omega.{arith}
 use borrow.Author.Tests.{eq-eqb, ne-eqb, le-leb, lt-leb}
-use lib.Dec.{leb·zero}
 use lib.ListN.{length, getD, drop}
-use Rattle.parsimony.proofs.Order.{pick-true, pick-false}
-use Rattle.parsimony.specs.Test.{pick}
 use Rattle.lines.specs.Bytes.{within}
-use Rattle.lines.specs.Number.{isDigit, digitsIn, limit, digitsOf, numberIn, numberOf, onNumber, stopIn, fieldOf}
+use Rattle.lines.specs.Number.{isDigit, digitsIn, limit, digitsOf, numberIn, numberOf, onNumber, stopIn}
+use Rattle.lines.specs.Number.{fieldOf}
 use Rattle.lines.specs.declared.Number.{Number}
 use Rattle.lines.specs.declared.Number.the-variants.{Value, NoNumber}
+use Rattle.parsimony.proofs.Order.{pick-true, pick-false}
+use Rattle.parsimony.specs.Test.{pick}
 use Rattle.lines.proofs.ByteLaws.{drop-below, drop-past}
 
 limit-above : (most n next : ℕ) → most < n → NoNumber ≡ limit most (Value n next)
@@ -70,7 +70,8 @@ pub number-zero : (most : ℕ) (sheet : List ℕ) (i : ℕ) → i < length sheet
     → Value 0 (i + 1) ≡ numberOf most sheet i
 unfolding numberOf numberIn
 number-zero most sheet i h e =
-    rw (drop-below sheet i h) (limit-within most 0 (i + 1) (omega arith) ∙ ap (limit most) (sym (pick-true _ _ (eq-eqb _ _ e))))
+    rw (drop-below sheet i h)
+    (limit-within most 0 (i + 1) (omega arith) ∙ ap (limit most) (sym (pick-true _ _ (eq-eqb _ _ e))))
 
 pub number-none : (most : ℕ) (sheet : List ℕ) (i : ℕ) → i < length sheet → (getD sheet i 0 ≡ 48 → ⊥)
     → within 48 57 (getD sheet i 0) ≡ false → NoNumber ≡ numberOf most sheet i

@@ -1,13 +1,13 @@
 -- A word, letter by letter.
 -- Assumes nothing.
 use mathlib.Core.List.{List}
-use mathlib.Core.Path.{_≡_, refl, sym}
+use mathlib.Core.Path.{_≡_, sym}
 use Prim.Native.Nat.{ℕ, _+_, _<_, _≤_}
 use borrow.Author.Tests.{eq-eqb, ne-eqb}
 use lib.ListN.{length, getD, drop}
-use Rattle.parsimony.proofs.Order.{pick-true, pick-false}
 use Rattle.lines.specs.Word.{wordIn}
 use Rattle.lines.specs.declared.Place.the-variants.{At, Nowhere}
+use Rattle.parsimony.proofs.Order.{pick-true, pick-false}
 use Rattle.lines.proofs.ByteLaws.{drop-below, drop-past}
 
 -- the same letter: the word goes on

@@ -4,8 +4,8 @@ use mathlib.Core.Bool.{Bool, true}
 use mathlib.Core.List.{List, [], _∷_}
 use Prim.Native.Char.{code}
 use Prim.Native.Nat.{ℕ}
-use Prim.Native.String.{String}
 use Prim.Native.String as Text
+use Prim.Native.String.{String}
 use lib.Dec.{leb}
 use lib.ListN.{take, drop}
 use Rattle.parsimony.specs.Test.{both}

@@ -3,7 +3,6 @@
 use mathlib.Core.List.{List}
 use Prim.Native.Nat.{ℕ}
 use lib.Dec.{ltb}
-use Rattle.parsimony.specs.Test.{pick}
 use Rattle.lines.specs.Number.{fieldOf, onNumber}
 use Rattle.lines.specs.Word.{wordOf}
 use Rattle.lines.specs.declared.Count.{Count}
@@ -11,14 +10,15 @@ use Rattle.lines.specs.declared.Count.the-variants.{Counted, Miscounted}
 use Rattle.lines.specs.declared.Fault.the-variants.{Sheet}
 use Rattle.lines.specs.declared.Place.{Place}
 use Rattle.lines.specs.declared.Place.the-variants.{At, Nowhere}
+use Rattle.parsimony.specs.Test.{pick}
 
 -- what follows from a place; something else where there is none
 unfoldable pub onPlace {ℓ} : {A : Type ℓ} → Place → A → (ℕ → A) → A
 onPlace (At i) none go = go i
 onPlace Nowhere none go = none
 
--- The count of the line at a place, with the place of the next line: the word, its space with it, a number from least to
--- most, and the line end. Anything else is SHEET on the line.
+-- The count of the line at a place, with the place of the next line: the word, its space with it, a number from least
+-- to most, and the line end. Anything else is SHEET on the line.
 unfoldable pub countOf : List ℕ → ℕ → ℕ → List ℕ → ℕ → ℕ → Count
 unfolding wordOf fieldOf onNumber onPlace pick
 countOf word least most sheet at line =

@@ -10,8 +10,8 @@ use Rattle.lines.specs.declared.Fault.{Fault}
 use Rattle.lines.specs.declared.Part.{Part}
 use Rattle.lines.specs.declared.Part.the-variants.{Read, Wrong}
 
--- what a count line and its section give: the items of its lines up to the first fault, and the count with the place to go
--- on from or that fault
+-- what a count line and its section give: the items of its lines up to the first fault, and the count with the place
+-- to go on from or that fault
 pub record Counting (A : Type 0) : Type 0 where
   pub items : List A
   pub count : Count

@@ -4,10 +4,10 @@ use mathlib.Core.List.{List, [], _∷_}
 use Prim.Native.Nat.{ℕ, _+_}
 use lib.Dec.{eqb}
 use lib.ListN.{drop}
-use Rattle.parsimony.specs.Test.{pick}
 use Rattle.lines.specs.Bytes.{within}
 use Rattle.lines.specs.declared.Place.{Place}
 use Rattle.lines.specs.declared.Place.the-variants.{At, Nowhere}
+use Rattle.parsimony.specs.Test.{pick}
 
 -- the first byte 10 of some bytes, counted from place i, if no byte before it is outside 32 to 126
 unfoldable pub endIn : List ℕ → ℕ → Place

@@ -5,10 +5,10 @@ use mathlib.Core.List.{List, [], _∷_}
 use Prim.Native.Nat.{ℕ, _+_, _-_, _*_}
 use lib.Dec.{eqb, leb}
 use lib.ListN.{drop}
-use Rattle.parsimony.specs.Test.{pick}
 use Rattle.lines.specs.Bytes.{within}
 use Rattle.lines.specs.declared.Number.{Number}
 use Rattle.lines.specs.declared.Number.the-variants.{Value, NoNumber}
+use Rattle.parsimony.specs.Test.{pick}
 
 -- the test that a byte is a digit
 unfoldable pub isDigit : ℕ → Bool

@@ -4,9 +4,9 @@ use mathlib.Core.List.{List, [], _∷_}
 use Prim.Native.Nat.{ℕ, _+_}
 use lib.Dec.{eqb}
 use lib.ListN.{drop}
-use Rattle.parsimony.specs.Test.{pick}
 use Rattle.lines.specs.declared.Place.{Place}
 use Rattle.lines.specs.declared.Place.the-variants.{At, Nowhere}
+use Rattle.parsimony.specs.Test.{pick}
 
 -- the place after the word, where some bytes, counted from place i, begin with it
 unfoldable pub wordIn : List ℕ → List ℕ → ℕ → Place

@@ -47,7 +47,7 @@ pub fn name_byte(byte: u8) -> bool
 }
 
 // Every byte from a place up to another may stand in a name.
-pub fn name_bytes(sheet: &[u8], at: usize, end: usize) -> bool
+fn name_bytes(sheet: &[u8], at: usize, end: usize) -> bool
     requires { ⌜ end ≤ length (now sheet) ⌝ }
     ensures { λ r. ⌜ r ≡ every isNameByte (textOf (now (sheet .entry)) at end) ⌝ }
 {
@@ -131,8 +131,9 @@ fn read_name(sheet: &[u8], names: &[usize], n: usize, at: usize, line: usize) ->
 
 // The t name lines from a place on; the place of each name goes into names.
 fn read_names(sheet: &[u8], t: usize, at: usize, line: usize, names: &mut [usize]) -> Part
-    requires { ⌜ (t ≤ 512) × (t ≤ length (now names)) × (line ≤ 65536) ⌝ }
-    ensures { λ r. ⌜ Gives (section (nameOf (now (sheet .entry))) t at line []) r (now (names .entry)) (now (names .exit)) ⌝ }
+    requires { ⌜ (t ≤ 512) × (t ≤ length (now names)) × (line ≤ 100000) ⌝ }
+    ensures { λ r. ⌜ Gives (section (nameOf (now (sheet .entry))) t at line []) r
+        (now (names .entry)) (now (names .exit)) ⌝ }
 {
     let mut i = 0;
     let mut place = at;

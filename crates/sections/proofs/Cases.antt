@@ -1,38 +1,40 @@
 -- Sheets, sound and refused, by computation.
 -- Assumes nothing.
-use mathlib.Core.List.{List, [], _∷_}
+use mathlib.Core.List.{[], _∷_}
 use mathlib.Core.Path.{_≡_, refl}
-use Prim.Native.Nat.{ℕ}
 use Prim.Native.String.{String}
+use Rattle.costs.specs.Costs.{unitTable}
 use Rattle.lines.specs.Bytes.{bytes}
-use Rattle.lines.specs.declared.Fault.{Fault}
 use Rattle.lines.specs.declared.Fault.the-variants.{Sheet, Symbol}
-use Rattle.sections.specs.Costs.{unitTable}
 use Rattle.sections.specs.Sheet.{sheetOf}
-use Rattle.sections.specs.declared.reading.Reading.{Reading}
-use Rattle.sections.specs.declared.reading.Reading.the-variants.{Sound, Faulty}
+use Rattle.sections.specs.declared.Reading.{Reading}
+use Rattle.sections.specs.declared.Reading.the-variants.{Sound, Faulty}
 
 -- what is read of a text
 pub read : String → Reading
 unfolding sheetOf
-read text = sheetOf (bytes text) .reading
+read text = sheetOf (bytes text) .rest .reading
 
 -- the paper's sheet: three tips, two columns, the cells at 24, the tree at 48 on line 11
 pub sheet-paper : sheetOf (bytes "names 3\na\nb\nc\ncolumns 2\nAC\nAT\nGT\ncosts 0\ntree 1\n((a,b),c);\n")
     ≡ record {
-      reading = Sound (record { tips = 3; columns = 2; cells = 24; tree = 48; line = 11 });
       names = 8 ∷ 10 ∷ 12 ∷ [];
-      costs = unitTable;
+      rest = record {
+        reading = Sound (record { tips = 3; columns = 2; cells = 24; tree = 48; line = 11 });
+        costs = unitTable;
+      };
     }
 unfolding sheetOf
 sheet-paper = refl
 
 -- four lines of costs, by the parent's state and then the child's
-pub sheet-costs : sheetOf (bytes "names 1\na\ncolumns 0\n\ncosts 4\n0 1 2 3\n4 0 5 6\n7 8 0 9\n10 11 999 0\ntree 1\na;\n")
+pub sheet-costs : sheetOf (bytes "names 1\na\ncolumns 0\n\ncosts 4\n0 1 2 3\n4 0 5 6\n7 8 0 9\n10 11 999 0\ntree 1\n")
     ≡ record {
-      reading = Sound (record { tips = 1; columns = 0; cells = 20; tree = 72; line = 11 });
       names = 8 ∷ [];
-      costs = (0 ∷ 1 ∷ 2 ∷ 3 ∷ []) ∷ (4 ∷ 0 ∷ 5 ∷ 6 ∷ []) ∷ (7 ∷ 8 ∷ 0 ∷ 9 ∷ []) ∷ (10 ∷ 11 ∷ 999 ∷ 0 ∷ []) ∷ [];
+      rest = record {
+        reading = Sound (record { tips = 1; columns = 0; cells = 20; tree = 72; line = 11 });
+        costs = (0 ∷ 1 ∷ 2 ∷ 3 ∷ []) ∷ (4 ∷ 0 ∷ 5 ∷ 6 ∷ []) ∷ (7 ∷ 8 ∷ 0 ∷ 9 ∷ []) ∷ (10 ∷ 11 ∷ 999 ∷ 0 ∷ []) ∷ [];
+      };
     }
 unfolding sheetOf
 sheet-costs = refl
@@ -90,8 +92,8 @@ pub sheet-lower : read "names 1\na\ncolumns 2\nAc\ncosts 0\ntree 1\n" ≡ Faulty
 unfolding read
 sheet-lower = refl
 
--- a line of a wrong length is SHEET even if it has a J; a J on an earlier line comes before a bad byte on a later one; a tab
--- comes before the J on its own line
+-- a line of a wrong length is SHEET even if it has a J; a J on an earlier line comes before a bad byte on a later one;
+-- a tab comes before the J on its own line
 pub sheet-long-j : read "names 1\na\ncolumns 2\nAJC\ncosts 0\ntree 1\n" ≡ Faulty (Sheet 4)
 unfolding read
 sheet-long-j = refl
@@ -123,21 +125,24 @@ pub sheet-digits : read "names 18446744073709551617\na\ncolumns 0\n\ncosts 0\ntr
 unfolding read
 sheet-digits = refl
 
--- costs: another count; a diagonal that is not 0; a cost of 1,000; a leading zero; three numbers; five; two spaces; a line
--- too few
+-- costs: another count; a diagonal that is not 0; a cost of 1,000; a leading zero; three numbers; five; two spaces; a
+-- line too few
 pub costs-three : read "names 1\na\ncolumns 0\n\ncosts 3\ntree 1\n" ≡ Faulty (Sheet 5)
 unfolding read
 costs-three = refl
 
-pub costs-diagonal : read "names 1\na\ncolumns 0\n\ncosts 4\n0 1 1 1\n1 1 1 1\n1 1 0 1\n1 1 1 0\ntree 1\n" ≡ Faulty (Sheet 7)
+pub costs-diagonal : read "names 1\na\ncolumns 0\n\ncosts 4\n0 1 1 1\n1 1 1 1\n1 1 0 1\n1 1 1 0\ntree 1\n"
+    ≡ Faulty (Sheet 7)
 unfolding read
 costs-diagonal = refl
 
-pub costs-1000 : read "names 1\na\ncolumns 0\n\ncosts 4\n0 1000 1 1\n1 0 1 1\n1 1 0 1\n1 1 1 0\ntree 1\n" ≡ Faulty (Sheet 6)
+pub costs-1000 : read "names 1\na\ncolumns 0\n\ncosts 4\n0 1000 1 1\n1 0 1 1\n1 1 0 1\n1 1 1 0\ntree 1\n"
+    ≡ Faulty (Sheet 6)
 unfolding read
 costs-1000 = refl
 
-pub costs-zero : read "names 1\na\ncolumns 0\n\ncosts 4\n0 01 1 1\n1 0 1 1\n1 1 0 1\n1 1 1 0\ntree 1\n" ≡ Faulty (Sheet 6)
+pub costs-zero : read "names 1\na\ncolumns 0\n\ncosts 4\n0 01 1 1\n1 0 1 1\n1 1 0 1\n1 1 1 0\ntree 1\n"
+    ≡ Faulty (Sheet 6)
 unfolding read
 costs-zero = refl
 
@@ -145,11 +150,13 @@ pub costs-few : read "names 1\na\ncolumns 0\n\ncosts 4\n0 1 1 1\n1 0 1 1\n1 1 0\
 unfolding read
 costs-few = refl
 
-pub costs-many : read "names 1\na\ncolumns 0\n\ncosts 4\n0 1 1 1\n1 0 1 1\n1 1 0 1 1\n1 1 1 0\ntree 1\n" ≡ Faulty (Sheet 8)
+pub costs-many : read "names 1\na\ncolumns 0\n\ncosts 4\n0 1 1 1\n1 0 1 1\n1 1 0 1 1\n1 1 1 0\ntree 1\n"
+    ≡ Faulty (Sheet 8)
 unfolding read
 costs-many = refl
 
-pub costs-spaces : read "names 1\na\ncolumns 0\n\ncosts 4\n0  1 1 1\n1 0 1 1\n1 1 0 1\n1 1 1 0\ntree 1\n" ≡ Faulty (Sheet 6)
+pub costs-spaces : read "names 1\na\ncolumns 0\n\ncosts 4\n0  1 1 1\n1 0 1 1\n1 1 0 1\n1 1 1 0\ntree 1\n"
+    ≡ Faulty (Sheet 6)
 unfolding read
 costs-spaces = refl
 

@@ -1,5 +1,3 @@
 pub mod Cases
-pub mod CellSteps
-pub mod CostLaws
-pub mod CostSteps
+pub mod SheetLaws
 pub mod SheetSteps

@@ -3,21 +3,22 @@
 use mathlib.Core.List.{List, []}
 use mathlib.Core.Path.{_≡_, refl, sym, ap, _∙_}
 use Prim.Native.Nat.{ℕ, _+_}
+use Rattle.cells.specs.Cells.{matrixOf}
+use Rattle.cells.specs.declared.Matrix.{Matrix}
+use Rattle.cells.specs.declared.Matrix.the-variants.{Cells, NoCells}
+use Rattle.costs.specs.Costs.{costsOf}
 use Rattle.lines.specs.Bytes.{bytes}
 use Rattle.lines.specs.Count.{countOf}
-use Rattle.lines.specs.Counting.{Counting, GivesCount, onCount}
+use Rattle.lines.specs.Counting.{GivesCount, onCount}
 use Rattle.lines.specs.Section.{wrote}
 use Rattle.lines.specs.declared.Count.{Count}
 use Rattle.lines.specs.declared.Count.the-variants.{Counted, Miscounted}
 use Rattle.lines.specs.declared.Fault.{Fault}
 use Rattle.names.specs.Names.{namesOf}
-use Rattle.sections.specs.Cells.{matrixOf}
-use Rattle.sections.specs.Costs.{costsOf}
-use Rattle.sections.specs.Sheet.{Outcome, GivesSheet, onMatrix, faulty, treeFrom, costsFrom, columnsFrom, sheetOf}
-use Rattle.sections.specs.declared.cells.Matrix.{Matrix}
-use Rattle.sections.specs.declared.cells.Matrix.the-variants.{Cells, NoCells}
-use Rattle.sections.specs.declared.reading.Reading.{Reading}
-use Rattle.sections.specs.declared.reading.Reading.the-variants.{Sound, Faulty}
+use Rattle.sections.specs.Sheet.{GivesRest, GivesSheet, onMatrix, refused, treeFrom, costsFrom, columnsFrom}
+use Rattle.sections.specs.Sheet.{sheetOf}
+use Rattle.sections.specs.declared.Reading.{Reading}
+use Rattle.sections.specs.declared.Reading.the-variants.{Sound, Faulty}
 
 count-wrong {ℓ} : {A : Type ℓ} (count : Count) (f : Fault) (bad : Fault → A) (go : ℕ → ℕ → A) → count ≡ Miscounted f
     → onCount count bad go ≡ bad f
@@ -39,66 +40,78 @@ matrix-right {ℓ} : {A : Type ℓ} (matrix : Matrix) (c cells next : ℕ) (bad 
 unfolding onMatrix
 matrix-right matrix c cells next bad go e = ap (λ n. onMatrix n bad go) e
 
-module _ (sheet names names₁ : List ℕ) (costs : List (List ℕ)) (count : Count)
+-- a fault before any cost: the table is as it was
+nothing : (f : Fault) (table : List (List ℕ)) → GivesRest (refused [] f) (Faulty f) table table
+unfolding refused wrote
+nothing f table = record { said = refl; priced = refl }
+
+module _ (sheet : List ℕ) (t c cells at : ℕ) (count : Count) (table table₁ : List (List ℕ))
+    (priced : GivesCount (costsOf sheet at (t + t + 3)) count table table₁) where
+  -- no costs
+  pub rest-no-costs : (f : Fault) → count ≡ Miscounted f
+      → GivesRest (costsFrom sheet t c cells at) (Faulty f) table table₁
+  unfolding costsFrom refused
+  rest-no-costs f e =
+      rw (count-wrong (costsOf sheet at (t + t + 3) .count) f _ _ (sym (priced .said) ∙ e))
+      (record { said = refl; priced = priced .written })
+
+  module _ (k next : ℕ) (paid : count ≡ Counted k next) where
+    after-costs : costsFrom sheet t c cells at ≡ treeFrom sheet (costsOf sheet at (t + t + 3) .items) t c cells k next
+    unfolding costsFrom
+    after-costs = count-right _ k next _ _ (sym (priced .said) ∙ paid)
+
+    -- no count of trees
+    pub rest-no-tree : (f : Fault) → countOf (bytes "tree ") 1 1 sheet next (t + t + 4 + k) ≡ Miscounted f
+        → GivesRest (costsFrom sheet t c cells at) (Faulty f) table table₁
+    unfolding treeFrom refused
+    rest-no-tree f e =
+        rw (after-costs ∙ count-wrong _ f _ _ e)
+        (record { said = refl; priced = priced .written })
+
+    -- the place of the tree line
+    pub rest-whole : (one tree : ℕ) → countOf (bytes "tree ") 1 1 sheet next (t + t + 4 + k) ≡ Counted one tree
+        → GivesRest (costsFrom sheet t c cells at)
+        (Sound (record { tips = t; columns = c; cells = cells; tree = tree; line = t + t + 5 + k })) table table₁
+    unfolding treeFrom
+    rest-whole one tree e =
+        rw (after-costs ∙ count-right _ one tree _ _ e)
+        (record { said = refl; priced = priced .written })
+
+module _ (sheet : List ℕ) (t at : ℕ) (table : List (List ℕ)) where
+  -- no cells
+  pub rest-no-cells : (f : Fault) → matrixOf t sheet at (t + 2) ≡ NoCells f
+      → GivesRest (columnsFrom sheet t at) (Faulty f) table table
+  unfolding columnsFrom
+  rest-no-cells f e = rw (matrix-wrong (matrixOf t sheet at (t + 2)) f _ _ e) (nothing f table)
+
+  -- the cells, and what follows
+  pub rest-cells : (c cells next : ℕ) (answer : Reading) (table₁ : List (List ℕ))
+      → matrixOf t sheet at (t + 2) ≡ Cells c cells next
+      → GivesRest (costsFrom sheet t c cells next) answer table table₁
+      → GivesRest (columnsFrom sheet t at) answer table table₁
+  unfolding columnsFrom
+  rest-cells c cells next answer table₁ e gives =
+      rw (matrix-right (matrixOf t sheet at (t + 2)) c cells next _ _ e) gives
+
+module _ (sheet names names₁ : List ℕ) (table : List (List ℕ)) (count : Count)
     (named : GivesCount (namesOf sheet 0 1) count names names₁) where
-  -- what the whole gives from what the sections give
-  from : (outcome : Outcome) {answer : Reading} {costs₁ : List (List ℕ)} → sheetOf sheet ≡ outcome
-      → answer ≡ outcome .reading → outcome .names ≡ namesOf sheet 0 1 .items → costs₁ ≡ wrote (outcome .costs) costs
-      → GivesSheet (sheetOf sheet) answer names names₁ costs costs₁
-  from outcome e said same priced =
-      rw e (record { said = said; named = rw same (named .written); priced = priced })
-
   -- no names
-  pub sheet-no-names : (f : Fault) → count ≡ Miscounted f → GivesSheet (sheetOf sheet) (Faulty f) names names₁ costs costs
-  unfolding sheetOf faulty wrote
+  pub sheet-no-names : (f : Fault) → count ≡ Miscounted f
+      → GivesSheet (sheetOf sheet) (Faulty f) names names₁ table table
+  unfolding sheetOf
   sheet-no-names f e =
-      from (faulty (namesOf sheet 0 1 .items) [] f) (count-wrong _ f _ _ (sym (named .said) ∙ e)) refl refl refl
+      record {
+        rest = rw (count-wrong (namesOf sheet 0 1 .count) f _ _ (sym (named .said) ∙ e)) (nothing f table);
+        named = named .written;
+      }
 
-  module _ (t at : ℕ) (counted : count ≡ Counted t at) where
-    after-names : sheetOf sheet ≡ columnsFrom sheet (namesOf sheet 0 1 .items) t at
-    unfolding sheetOf
-    after-names = count-right _ t at _ _ (sym (named .said) ∙ counted)
-
-    -- no cells
-    pub sheet-no-cells : (f : Fault) → matrixOf t sheet at (t + 2) ≡ NoCells f
-        → GivesSheet (sheetOf sheet) (Faulty f) names names₁ costs costs
-    unfolding columnsFrom faulty wrote
-    sheet-no-cells f e =
-        from (faulty (namesOf sheet 0 1 .items) [] f) (after-names ∙ matrix-wrong _ f _ _ e) refl refl refl
-
-    module _ (c cells at₂ : ℕ) (matrix : matrixOf t sheet at (t + 2) ≡ Cells c cells at₂) (costs₁ : List (List ℕ))
-        (price : Count) (priced : GivesCount (costsOf sheet at₂ (t + t + 3)) price costs costs₁) where
-      after-cells : sheetOf sheet ≡ costsFrom sheet (namesOf sheet 0 1 .items) t c cells at₂
-      unfolding columnsFrom
-      after-cells = after-names ∙ matrix-right _ c cells at₂ _ _ matrix
-
-      -- no costs
-      pub sheet-no-costs : (f : Fault) → price ≡ Miscounted f
-          → GivesSheet (sheetOf sheet) (Faulty f) names names₁ costs costs₁
-      unfolding costsFrom faulty
-      sheet-no-costs f e =
-          from (faulty (namesOf sheet 0 1 .items) (costsOf sheet at₂ (t + t + 3) .items) f)
-          (after-cells ∙ count-wrong _ f _ _ (sym (priced .said) ∙ e)) refl refl (priced .written)
-
-      module _ (k at₃ : ℕ) (paid : price ≡ Counted k at₃) where
-        after-costs : sheetOf sheet
-            ≡ treeFrom sheet (namesOf sheet 0 1 .items) (costsOf sheet at₂ (t + t + 3) .items) t c cells k at₃
-        unfolding costsFrom
-        after-costs = after-cells ∙ count-right _ k at₃ _ _ (sym (priced .said) ∙ paid)
-
-        -- no count of trees
-        pub sheet-no-tree : (f : Fault) → countOf (bytes "tree ") 1 1 sheet at₃ (t + t + 4 + k) ≡ Miscounted f
-            → GivesSheet (sheetOf sheet) (Faulty f) names names₁ costs costs₁
-        unfolding treeFrom faulty
-        sheet-no-tree f e =
-            from (faulty (namesOf sheet 0 1 .items) (costsOf sheet at₂ (t + t + 3) .items) f)
-            (after-costs ∙ count-wrong _ f _ _ e) refl refl (priced .written)
-
-        -- the whole
-        pub sheet-whole : (one tree : ℕ) → countOf (bytes "tree ") 1 1 sheet at₃ (t + t + 4 + k) ≡ Counted one tree
-            → GivesSheet (sheetOf sheet)
-            (Sound (record { tips = t; columns = c; cells = cells; tree = tree; line = t + t + 5 + k }))
-            names names₁ costs costs₁
-        unfolding treeFrom
-        sheet-whole one tree e =
-            from _ (after-costs ∙ count-right _ one tree _ _ e) refl refl (priced .written)
+  -- the names, and what follows
+  pub sheet-names : (t next : ℕ) (answer : Reading) (table₁ : List (List ℕ)) → count ≡ Counted t next
+      → GivesRest (columnsFrom sheet t next) answer table table₁
+      → GivesSheet (sheetOf sheet) answer names names₁ table table₁
+  unfolding sheetOf
+  sheet-names t next answer table₁ e gives =
+      record {
+        rest = rw (count-right (namesOf sheet 0 1 .count) t next _ _ (sym (named .said) ∙ e)) gives;
+        named = named .written;
+      }

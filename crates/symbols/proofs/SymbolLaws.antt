@@ -8,7 +8,6 @@ use borrow.Author.Tests.{leb-true}
 use lib.Dec.{leb}
 use Rattle.symbols.specs.Code.{codeOf}
 use Rattle.symbols.specs.Symbol.{answer, symbolOf}
-use Rattle.symbols.specs.declared.Symbol.{Symbol}
 use Rattle.symbols.specs.declared.Symbol.the-variants.{States, Unlisted}
 use Rattle.symbols.proofs.Below.{all, all-below}
 

@@ -1,10 +1,10 @@
--- The code list: the symbols that a cell may have, by the IUPAC-IUB nucleotide code, and the bases that each stands for.
+-- The code list: the symbols that a cell may have, by the IUPAC-IUB nucleotide code, and the bases of each.
 -- Assumes nothing.
 use mathlib.Core.List.{List, [], _∷_}
 use Prim.Native.Char.{Char, code}
 use Prim.Native.Nat.{ℕ, _+_}
-use Prim.Native.String.{String}
 use Prim.Native.String as Text
+use Prim.Native.String.{String}
 use lib.Dec.{eqb}
 use Rattle.parsimony.specs.Test.{pick}
 

@@ -28,8 +28,9 @@ shared-slice-read-if2 c = search needs
 
 returns-3 : tie.Need-returns-3
 returns-3 c =
-    field-other _ _ _ _ _ _
-    (sym (c .before .before .before .before .before .before .number-at .ensures) ∙ c .before .before .before .before .n .given .1)
+    let at-n = c .before .before .before .before in
+    let at-number-at = at-n .before .before in
+    field-other _ _ _ _ _ _ (sym (at-number-at .number-at .ensures) ∙ at-n .n .given .1)
     (c .before .before .if1 .left) (c .if2 .taken)
 
 add-t8 : tie.Need-add-t8
@@ -37,8 +38,9 @@ add-t8 c = search needs
 
 returns-4 : tie.Need-returns-4
 returns-4 c =
-    field-whole _ _ _ _ _ _
-    (sym (c .before .before .before .before .before .before .number-at .ensures) ∙ c .before .before .before .before .n .given .1)
+    let at-n = c .before .before .before .before in
+    let at-number-at = at-n .before .before in
+    field-whole _ _ _ _ _ _ (sym (at-number-at .number-at .ensures) ∙ at-n .n .given .1)
     (c .before .before .if1 .left) (c .if2 .left)
 
 pub field-at-spec : {M : Type 1} → statement M

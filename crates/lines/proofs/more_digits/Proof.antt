@@ -59,14 +59,16 @@ loop-less : tie.Need-loop-less Inv-loop μ-loop
 loop-less c = search needs
 
 loop-again : tie.Need-loop-again Inv-loop μ-loop
-loop-again c = (
-  let w = within-told _ _ _ (test-yes (c .before .before .before .byte-within .ensures) (c .before .before .if2 .left)) in
-      omega arith,
-  digits-on _ _ _ _ _ (c .before .before .before .before .before .before .loop-test .taken)
-      (test-yes (c .before .before .before .byte-within .ensures) (c .before .before .if2 .left))
-      (c .digit-value .ensures)
-      ∙ c .before .before .before .before .before .before .before .loop .inv .1,
-)
+loop-again c =
+    let at-byte-within = c .before .before .before in
+    let at-loop-test = at-byte-within .before .before .before in
+    let at-loop = at-loop-test .before in (
+      let w = within-told _ _ _ (test-yes (at-byte-within .byte-within .ensures) (c .before .before .if2 .left)) in
+          omega arith,
+      digits-on _ _ _ _ _ (at-loop-test .loop-test .taken)
+          (test-yes (at-byte-within .byte-within .ensures) (c .before .before .if2 .left)) (c .digit-value .ensures)
+          ∙ at-loop .loop .inv .1,
+    )
 
 returns-3 : tie.Need-returns-3 Inv-loop μ-loop
 returns-3 c = digits-over _ _ _ _ (c .if3 .taken) ∙ c .before .before .loop .inv .1

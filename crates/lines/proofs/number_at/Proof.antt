@@ -42,8 +42,10 @@ digit-value-requires c κs = search needs
 
 more-digits-requires : tie.Need-more-digits-requires
 more-digits-requires c κs =
-    let w = within-told _ _ _ (test-yes (c .before .before .before .byte-within .ensures) (c .before .before .if3 .left)) in
-    (omega arith, c .before .before .before .before .before .before .before .before .before .pre)
+    let at-byte-within = c .before .before .before in
+    let at-pre = at-byte-within .before .before .before .before .before .before in
+    let w = within-told _ _ _ (test-yes (at-byte-within .byte-within .ensures) (c .before .before .if3 .left)) in
+    (omega arith, at-pre .pre)
 
 returns-4 : tie.Need-returns-4
 returns-4 c =

@@ -29,21 +29,26 @@ enum-told-2 c = search needs
 
 returns-2 : tie.Need-returns-2
 returns-2 c =
-    count-no-number _ _ _ _ _ _ _
-    (sym (c .before .before .before .before .before .before .word-end .ensures) ∙ c .before .before .before .before .digits .given .1)
+    let at-digits = c .before .before .before .before in
+    let at-word-end = at-digits .before .before in
+    count-no-number _ _ _ _ _ _ _ (sym (at-word-end .word-end .ensures) ∙ at-digits .digits .given .1)
     (sym (c .before .before .field-at .ensures) ∙ c .enum-told2 .given .1)
 
 returns-3 : tie.Need-returns-3
 returns-3 c =
-    count-few _ _ _ _ _ _ _ _ _
-    (sym (c .before .before .before .before .before .before .before .before .word-end .ensures) ∙ c .before .before .before .before .before .before .digits .given .1)
-    (sym (c .before .before .before .before .field-at .ensures) ∙ c .before .before .n .given .1) (c .if1 .taken)
+    let at-field-at = c .before .before .before .before in
+    let at-digits = at-field-at .before .before in
+    let at-word-end = at-digits .before .before in
+    count-few _ _ _ _ _ _ _ _ _ (sym (at-word-end .word-end .ensures) ∙ at-digits .digits .given .1)
+    (sym (at-field-at .field-at .ensures) ∙ c .before .before .n .given .1) (c .if1 .taken)
 
 returns-4 : tie.Need-returns-4
 returns-4 c =
-    count-whole _ _ _ _ _ _ _ _ _
-    (sym (c .before .before .before .before .before .before .before .before .word-end .ensures) ∙ c .before .before .before .before .before .before .digits .given .1)
-    (sym (c .before .before .before .before .field-at .ensures) ∙ c .before .before .n .given .1) (c .if1 .left)
+    let at-field-at = c .before .before .before .before in
+    let at-digits = at-field-at .before .before in
+    let at-word-end = at-digits .before .before in
+    count-whole _ _ _ _ _ _ _ _ _ (sym (at-word-end .word-end .ensures) ∙ at-digits .digits .given .1)
+    (sym (at-field-at .field-at .ensures) ∙ c .before .before .n .given .1) (c .if1 .left)
 
 pub read-count-spec : {M : Type 1} → statement M
 read-count-spec =

@@ -1,4 +1,5 @@
--- `names::is_new` meets its contract. The invariant: the names from i on decide. The measure is the number of names left.
+-- `names::is_new` meets its contract. The invariant: the names from i on decide. The measure is the number of names
+-- left.
 -- Assumes nothing.
 use mathlib.Core.Path.{_≡_, refl, sym, _∙_}
 use Prim.Native.Nat.{_-_}

@@ -4,7 +4,8 @@
 use Prim.Native.Nat.{_-_}
 use native.Mathlib.Omega.{arith}
 use borrow.Author.Needs.{needs}
-use Rattle.lines.proofs.SectionLaws.{Going, going-start, going-on, going-stop, going-end, placed-wrong, placed-read}
+use Rattle.lines.proofs.Filling.{Going, going-start, going-on, going-stop, going-end}
+use Rattle.lines.proofs.SectionSteps.{placed-wrong, placed-read}
 use Rattle.names.specs.Names.{nameOf}
 use Rattle.names.proofs.read_names.Statement.{statement}
 use Rattle.names.proofs.read_names.Tie as tie

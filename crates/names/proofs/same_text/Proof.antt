@@ -1,5 +1,5 @@
--- `names::same_text` meets its contract. The invariant: the lines from i and j on decide. The measure is what is left of
--- the sheet after i.
+-- `names::same_text` meets its contract. The invariant: the lines from i and j on decide. The measure is what is left
+-- of the sheet after i.
 -- Assumes nothing.
 use mathlib.Core.Path.{_≡_, refl, _∙_}
 use Prim.Native.Nat.{_-_}

@@ -21,7 +21,8 @@ returns : tie.Need-returns
 unfolding table
 returns c =
     let start = c .before .before in
-    let entry = table-at (c .before .wide .result) (start .args .byte) (c .before .wide .ensures) (start .fits .byte .fits) in
+    let entry =
+    table-at (c .before .wide .result) (start .args .byte) (c .before .wide .ensures) (start .fits .byte .fits) in
     symbol-none _ (entry ∙ c .if1 .taken)
 
 -- the entry is a set
@@ -29,7 +30,8 @@ returns-2 : tie.Need-returns-2
 unfolding table
 returns-2 c =
     let start = c .before .before in
-    let entry = table-at (c .before .wide .result) (start .args .byte) (c .before .wide .ensures) (start .fits .byte .fits) in
+    let entry =
+    table-at (c .before .wide .result) (start .args .byte) (c .before .wide .ensures) (start .fits .byte .fits) in
     symbol-some _ _ entry (c .if1 .left)
 
 pub symbol-of-spec : {M : Type 1} → statement M

@@ -1,0 +1,4 @@
+pub mod CostLaws
+pub mod CostSteps
+pub mod FlatLaws
+pub mod TableLaws

@@ -1,0 +1,4 @@
+-- The section of the costs.
+-- Assumes nothing.
+pub mod CostRules
+pub mod Costs
