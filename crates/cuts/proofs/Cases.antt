@@ -8,7 +8,8 @@ use Rattle.parsimony.specs.Column.{columnOf}
 use Rattle.parsimony.specs.Table.{tips}
 use Rattle.answers.specs.Input.{Input, input}
 use Rattle.cuts.specs.Cut.{part, rest, span, branch, laterCell, laterEntry}
-use Rattle.cuts.specs.Filled.{listOf, cellsBy, entriesBy}
+use Rattle.parsimony.specs.Filled.{listOf}
+use Rattle.cuts.specs.Filled.{cellsBy, entriesBy}
 use Rattle.cuts.specs.Piece.{nodeNew, keptCell, keptEntry}
 
 abbrev none : ℕ

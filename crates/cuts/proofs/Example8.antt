@@ -9,7 +9,8 @@ use Rattle.parsimony.specs.Examples.{Example, example2b, example8part, example8
 use Rattle.parsimony.specs.Table.{tips}
 use Rattle.answers.specs.Input.{Input, input}
 use Rattle.cuts.specs.Cut.{part, rest, span, branch, laterCell, laterEntry}
-use Rattle.cuts.specs.Filled.{listOf, cellsBy, entriesBy}
+use Rattle.parsimony.specs.Filled.{listOf}
+use Rattle.cuts.specs.Filled.{cellsBy, entriesBy}
 use Rattle.cuts.specs.Piece.{nodeNew, keptCell, keptEntry}
 
 -- the table of an example

@@ -23,7 +23,7 @@ use Rattle.answers.specs.Input.{Input, nodes, nodeIn, tipsIn, column}
 use Rattle.answers.specs.Rules.{All}
 use Rattle.cuts.specs.Numbering.{renumber, original}
 use Rattle.cuts.specs.Piece.{Choice, keptRow, keptHanded, renumbered, leftEntry, rightEntry, nodeOf, nodeNew, keptNodes, keptRows, keptTips, piece}
-use Rattle.cuts.proofs.FilledLaws.{list-long, list-at}
+use Rattle.parsimony.proofs.FilledLaws.{list-long, list-at}
 use Rattle.cuts.proofs.NumberLaws.{Marks, renumber-lt, renumber-mono, renumber-most, renumber-one, original-is, original-own, sum-kept}
 
 -- The kept nodes stand as a tree with root top: with an inner node its children are kept; each kept node but top is a

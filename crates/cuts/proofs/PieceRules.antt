@@ -27,7 +27,8 @@ use Rattle.cuts.specs.Filled.{cellsBy, entriesBy}
 use Rattle.cuts.specs.Numbering.{renumber, original}
 use Rattle.cuts.specs.Piece.{Choice, keptRow, keptHanded, renumbered, nodeOf, nodeNew, keptNodes, keptRows, keptTips, keptCell, keptEntry, piece}
 use Rattle.cuts.specs.Sits.{Sits}
-use Rattle.cuts.proofs.FilledLaws.{place-split, cells-long, cells-at, entries-long, entries-at}
+use Rattle.parsimony.proofs.FilledLaws.{place-split}
+use Rattle.cuts.proofs.FilledLaws.{cells-long, cells-at, entries-long, entries-at}
 use Rattle.cuts.proofs.NumberLaws.{renumber-lt, original-is, original-own}
 use Rattle.cuts.proofs.PieceLaws.{Stands, from, row-kept, row-marks, handed-marks, piece-nodes, piece-node, piece-handed, piece-symbol, piece-tree, piece-size, piece-some}
 use Rattle.cuts.proofs.SitsLaws.{sits-rows}

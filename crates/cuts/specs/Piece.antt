@@ -5,7 +5,8 @@ use Rattle.parsimony.specs.Column.{cellAt}
 use Rattle.parsimony.specs.Sum.{sum}
 use Rattle.parsimony.specs.Table.{symbol, handed, Node, leaf, inner, isTip, names, tips, nodeAt}
 use Rattle.answers.specs.Input.{Input, input, nodes, tipsIn}
-use Rattle.cuts.specs.Filled.{listOf, cellsBy, entriesBy}
+use Rattle.parsimony.specs.Filled.{listOf}
+use Rattle.cuts.specs.Filled.{cellsBy, entriesBy}
 use Rattle.cuts.specs.Numbering.{renumber, original}
 
 -- What is kept of a table.

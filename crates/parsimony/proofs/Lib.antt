@@ -4,6 +4,7 @@ pub mod Examples
 pub mod Order
 pub mod TellsLaws
 pub mod Sums
+pub mod FilledLaws
 pub mod LeastLaws
 pub mod TreeLaws
 pub mod TipLaws

@@ -3,6 +3,7 @@
 pub mod Tells
 pub mod Test
 pub mod Sum
+pub mod Filled
 pub mod Least
 pub mod StateSet
 pub mod Barred

@@ -1,13 +1,15 @@
 -- What a sheet that is read up to its tree line has, in words: its names, cells and costs keep their rules.
 -- Assumes nothing.
 use mathlib.Core.List.{List, []}
+use mathlib.Core.Logic.{⊎-elim}
 use mathlib.Core.Path.{_≡_, refl, sym, subst, _∙_}
-use Prim.Native.Nat.{ℕ, _+_}
+use Prim.Native.Nat.{ℕ, _+_, _≤_}
 use native.Mathlib.Omega.{arith}
 use Rattle.cells.proofs.CellLaws.{CellsRead, cells-read}
 use Rattle.cells.specs.Cells.{matrixOf}
 use Rattle.cells.specs.declared.Matrix.{Matrix}
 use Rattle.cells.specs.declared.Matrix.the-variants.{Cells, NoCells}
+use Rattle.costs.proofs.CostLaws.{costs-count}
 use Rattle.costs.proofs.TableLaws.{costs-rules}
 use Rattle.costs.specs.CostRules.{TableRules}
 use Rattle.costs.specs.Costs.{costsOf}
@@ -33,11 +35,11 @@ same-sound : {s r : Sections} → Sound s ≡ Sound r → s ≡ r
 same-sound e = cc
 
 module _ (sheet : List ℕ) (s : Sections) where
-  tree-read : (costs : List (List ℕ)) (t c cells k at next : ℕ) → CellsRead sheet t c cells next → TableRules costs
+  tree-read : (costs : List (List ℕ)) (t c cells k at next : ℕ) → k ≤ 4 → CellsRead sheet t c cells next → TableRules costs
       → treeFrom sheet costs t c cells k at .reading ≡ Sound s
       → RestRead sheet t (treeFrom sheet costs t c cells k at .costs) s
   unfolding treeFrom onCount refused
-  tree-read costs t c cells k at next read rules e =
+  tree-read costs t c cells k at next few read rules e =
       by-count (countOf (bytes "tree ") 1 1 sheet at (t + t + 4 + k)) refl e
     where
       whole : ℕ → Rest
@@ -60,6 +62,7 @@ module _ (sheet : List ℕ) (s : Sections) where
             rows = read .rows;
             priced = rules;
             tree = count .inside;
+            line = omega (arith, few);
           })
 
   costs-read : (t c cells at : ℕ) → CellsRead sheet t c cells at → costsFrom sheet t c cells at .reading ≡ Sound s
@@ -75,7 +78,7 @@ module _ (sheet : List ℕ) (s : Sections) where
           → RestRead sheet t (onCount p (refused items) (treeFrom sheet items t c cells) .costs) s
       by-count (Miscounted f) r h = not-sound h
       by-count (Counted k next) r h =
-          tree-read items t c cells k next at read (costs-rules sheet at (t + t + 3) k next r) h
+          tree-read items t c cells k next at (⊎-elim (λ z. omega arith) (λ z. omega arith) (costs-count sheet at (t + t + 3) k next r)) read (costs-rules sheet at (t + t + 3) k next r) h
 
   columns-read : (t at : ℕ) → columnsFrom sheet t at .reading ≡ Sound s
       → RestRead sheet t (columnsFrom sheet t at .costs) s

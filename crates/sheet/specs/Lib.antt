@@ -1,0 +1,4 @@
+-- The whole sheet: what it holds, or its first fault.
+-- Assumes nothing.
+pub mod Judge
+pub mod Gives

@@ -1,0 +1,86 @@
+// The whole sheet: its sections, its tree line, and nothing after it.
+ghost use mathlib.Core.Path.{_≡_};
+ghost use Prim.Native.Nat.{_≤_};
+ghost use lib.ListN.{length};
+ghost use Rattle.sheet.specs.Gives.{Gives, GivesTree};
+ghost use Rattle.sheet.specs.Judge.{judge};
+use lines::Fault;
+use lines::Place;
+use lines::line_end;
+use newick::Subtree;
+use newick::tree_line;
+use sections::Reading;
+use sections::Sections;
+use sections::read_sections;
+
+// What a sound sheet has: the number of tips, columns and nodes, and the place of its first cell.
+pub struct Sheet {
+    pub tips: usize,
+    pub columns: usize,
+    pub cells: usize,
+    pub nodes: usize,
+}
+
+// What a sheet comes to.
+pub enum Read {
+    Sound(Sheet),
+    Faulty(Fault),
+}
+
+const MOST_BYTES: usize = 65536;
+
+const MOST_NODES: usize = 1023;
+
+// The tree line at a place, and nothing after it: the number of its nodes.
+fn read_tree_line(
+    sheet: &[u8],
+    names: &[usize],
+    s: Sections,
+    left: &mut [u16; MOST_NODES],
+    right: &mut [u16; MOST_NODES],
+) -> Read
+    requires { ⌜ (s .tips ≤ 512) × (s .tips ≤ length (now names)) × (length (now left) ≡ 1023) × (length (now right) ≡ 1023) ⌝ }
+    requires { ⌜ s .line ≤ 65535 ⌝ }
+    ensures { λ r. ⌜ GivesTree (now (sheet .entry)) (now (names .entry)) s r
+        (now (left .entry)) (now (right .entry)) (now (left .exit)) (now (right .exit)) ⌝ }
+{
+    let at = s.tree;
+    let line = s.line;
+    let tips = s.tips;
+    let Place::At(end) = line_end(sheet, at) else {
+        return Read::Faulty(Fault::Sheet(line));
+    };
+    let Subtree::Tree(_, nodes) = tree_line(sheet, names, tips, at, end, left, right) else {
+        return Read::Faulty(Fault::TreeText(line));
+    };
+    if end + 1 != sheet.len() {
+        return Read::Faulty(Fault::Sheet(line + 1));
+    }
+    Read::Sound(Sheet { tips, columns: s.columns, cells: s.cells, nodes })
+}
+
+// The whole sheet. The place of each name goes into names, the costs into table, and the tree into left and right.
+pub fn read_sheet(
+    sheet: &[u8],
+    names: &mut [usize],
+    table: &mut [[u16; 4]; 4],
+    left: &mut [u16; MOST_NODES],
+    right: &mut [u16; MOST_NODES],
+) -> Read
+    requires { ⌜ (512 ≤ length (now names)) × (length (now table) ≡ 4) ⌝ }
+    requires { ⌜ (length (now left) ≡ 1023) × (length (now right) ≡ 1023) ⌝ }
+    ensures { λ r. ⌜ Gives (judge (now (sheet .entry))) r (now (table .exit))
+        (now (left .entry)) (now (right .entry)) (now (left .exit)) (now (right .exit)) ⌝ }
+{
+    if MOST_BYTES < sheet.len() {
+        return Read::Faulty(Fault::Sheet(0));
+    }
+    match read_sections(sheet, names, table) {
+        Reading::Faulty(fault) => Read::Faulty(fault),
+        Reading::Sound(s) => {
+            let t = s.tips;
+            let places = &names[..];
+            read_tree_line(sheet, &places[0..t], s, left, right)
+        }
+    }
+}
