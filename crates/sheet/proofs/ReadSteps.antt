@@ -1,6 +1,6 @@
 -- The turns of the sheet's reader: its length, its sections, its tree line, and nothing after it.
 -- Assumes nothing.
-use mathlib.Core.List.{List, [], _++_, append-nil}
+use mathlib.Core.List.{List, _++_, append-nil}
 use mathlib.Core.Path.{_≡_, refl, ap, sym, _∙_, subst}
 use Prim.Native.Nat.{ℕ, _+_, _-_, _<_, _≤_}
 use native.Mathlib.Omega.{arith}
@@ -15,9 +15,8 @@ use Rattle.lines.specs.Line.{lineOf}
 use Rattle.lines.specs.Section.{wrote}
 use Rattle.lines.specs.declared.Fault.{Fault}
 use Rattle.lines.specs.declared.Fault.the-variants.{Sheet, TreeText}
-use Rattle.lines.specs.declared.Place.{Place}
 use Rattle.lines.specs.declared.Place.the-variants.{At, Nowhere}
-use Rattle.newick.specs.Parse.{Parsed, got, noTree, lineTree}
+use Rattle.newick.specs.Parse.{Parsed, noTree, lineTree}
 use Rattle.newick.specs.Reading.{GotLine, GivesLineFor, GivesLine}
 use Rattle.newick.specs.Vine.{Vine, size}
 use Rattle.newick.specs.declared.Subtree.{Subtree}
@@ -27,11 +26,10 @@ use Rattle.sections.specs.declared.Reading.{Reading}
 use Rattle.sections.specs.declared.Reading.the-variants.{Sound, Faulty}
 use Rattle.sections.specs.declared.Sections.{Sections}
 use Rattle.sections.proofs.SheetLaws.{sheet-read}
-use Rattle.sheet.specs.Gives.{Holds, GivesFor, Gives, GivesTree}
-use Rattle.sheet.specs.Judge.{Contents, Judged, sound, faulty, onReading, onTree, treeLine, judge}
+use Rattle.sheet.specs.Gives.{Gives, GivesTree}
+use Rattle.sheet.specs.Judge.{Judged, sound, faulty, onReading, onTree, treeLine, judge}
 use Rattle.sheet.specs.declared.Read as Reads
 use Rattle.sheet.specs.declared.Read.the-variants as Answer
-use Rattle.sheet.specs.declared.Sheet as Sheets
 
 -- an answer of the tree line's reader, by its case
 pub line-tree : {p : Parsed} {left right : List ℕ} {answer : Subtree} {left' right' : List ℕ} (stop n : ℕ)
@@ -190,8 +188,8 @@ module _ (sheet : List ℕ) (left right left' right' : List ℕ) where
         let priced = sections-costs sheet answer names names₁ table table₁ gives s is four in
         let told : judge sheet ≡ treeLine sheet places costs s =
         to-sections
-            ∙ ap (λ a. onReading a (treeLine sheet (sheetOf sheet .names) costs)) (sym (gives .rest .said) ∙ is)
-            ∙ ap (λ n. treeLine sheet n costs s) (sym at-names) in
+        ∙ ap (λ a. onReading a (treeLine sheet (sheetOf sheet .names) costs)) (sym (gives .rest .said) ∙ is)
+        ∙ ap (λ n. treeLine sheet n costs s) (sym at-names) in
         subst (λ t. Gives (judge sheet) r t left right left' right') (sym priced)
         (subst (λ j. Gives j r costs left right left' right') (sym told) (tree .tree costs))
 

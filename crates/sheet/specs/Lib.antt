@@ -2,3 +2,5 @@
 -- Assumes nothing.
 pub mod Judge
 pub mod Gives
+pub mod Table
+pub mod Cells

@@ -2,8 +2,10 @@
 ghost use mathlib.Core.Path.{_≡_};
 ghost use Prim.Native.Nat.{_≤_};
 ghost use lib.ListN.{length};
+ghost use Rattle.sheet.specs.Cells.{Inside, Filled};
 ghost use Rattle.sheet.specs.Gives.{Gives, GivesTree};
 ghost use Rattle.sheet.specs.Judge.{judge};
+ghost use Rattle.symbols.specs.Code.{codeOf};
 use lines::Fault;
 use lines::Place;
 use lines::line_end;
@@ -12,6 +14,8 @@ use newick::tree_line;
 use sections::Reading;
 use sections::Sections;
 use sections::read_sections;
+use symbols::Symbol;
+use symbols::symbol_of;
 
 // What a sound sheet has: the number of tips, columns and nodes, and the place of its first cell.
 pub struct Sheet {
@@ -28,6 +32,8 @@ pub enum Read {
 }
 
 const MOST_BYTES: usize = 65536;
+
+const MOST_NAMES: usize = 512;
 
 const MOST_NODES: usize = 1023;
 
@@ -56,7 +62,12 @@ fn read_tree_line(
     if end + 1 != sheet.len() {
         return Read::Faulty(Fault::Sheet(line + 1));
     }
-    Read::Sound(Sheet { tips, columns: s.columns, cells: s.cells, nodes })
+    Read::Sound(Sheet {
+        tips,
+        columns: s.columns,
+        cells: s.cells,
+        nodes,
+    })
 }
 
 // The whole sheet. The place of each name goes into names, the costs into table, and the tree into left and right.
@@ -82,5 +93,34 @@ pub fn read_sheet(
             let places = &names[..];
             read_tree_line(sheet, &places[0..t], s, left, right)
         }
+    }
+}
+
+// The set of states of a cell's symbol.
+fn cell_of(byte: u8) -> u16
+    ensures { λ r. ⌜ r ≡ codeOf byte ⌝ }
+{
+    match symbol_of(byte) {
+        Symbol::States(set) => set,
+        Symbol::Unlisted => 0,
+    }
+}
+
+// Puts the cells of column j, one for each of t rows of c columns from a place on, into cells.
+pub fn put_cells(
+    sheet: &[u8],
+    t: usize,
+    c: usize,
+    at: usize,
+    j: usize,
+    cells: &mut [u16; MOST_NAMES],
+)
+    requires { ⌜ (t ≤ 512) × (c ≤ 65535) × Inside (now sheet) t c at j × (length (now cells) ≡ 512) ⌝ }
+    ensures { λ _. ⌜ Filled (now (sheet .entry)) c at j t (now (cells .exit)) ⌝ }
+{
+    let mut r = 0;
+    while r < t {
+        cells[r] = cell_of(sheet[at + r * (c + 1) + j]);
+        r += 1;
     }
 }

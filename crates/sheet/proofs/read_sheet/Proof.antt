@@ -1,59 +1,44 @@
+-- `sheet::read_sheet` meets its contract, case by case.
+-- Assumes nothing.
 use Rattle.sheet.proofs.ReadSteps.{sections-few, sections-line, sheet-long, sheet-faulty, sheet-tree, part-first, part-long}
-use mathlib.Core.Path.{sym, _∙_}
 use native.Mathlib.Omega.{arith}
 use borrow.Author.Needs.{needs}
 use Rattle.sheet.proofs.read_sheet.Statement.{statement}
 use Rattle.sheet.proofs.read_sheet.Tie as tie
-use Rattle.sheet.proofs.read_sheet.Reads as reads
-use Rattle.sheet.proofs.read_sheet.Lts as lts
-use Rattle.sections.proofs.read_sections.Reads as read-sections-reads
-use Rattle.sheet.proofs.read_tree_line.Reads as read-tree-line-reads
 
--- src/lib.rt:76:9
 returns : tie.Need-returns
 returns c = sheet-long _ _ _ _ _ _ (c .if1 .taken)
 
--- src/lib.rt:78:11
 read-sections-requires : tie.Need-read-sections-requires
 read-sections-requires c κs = search needs
 
--- src/lib.rt:79:25
 enum-known-fault : tie.Need-enum-known-fault
 enum-known-fault c = search needs
 
--- src/lib.rt:80:24
 enum-known-s : tie.Need-enum-known-s
 enum-known-s c = search needs
 
--- src/lib.rt:83:35
 sub-read-tree-line : tie.Need-sub-read-tree-line
 sub-read-tree-line c = search needs
 
--- src/lib.rt:83:35
 part-read-tree-line-start : tie.Need-part-read-tree-line-start
 part-read-tree-line-start c = search needs
 
--- src/lib.rt:83:35
 part-read-tree-line-end : tie.Need-part-read-tree-line-end
 part-read-tree-line-end c = (let few = sections-few _ _ _ _ _ _ (c .before .before .before .before .before .before .read-sections .ensures) _ (c .before .before .s .given .1) in let long = c .before .before .before .before .before .before .before .before .before .before .before .before .pre .0 .0 in let same = c .before .before .before .before .before .before .read-sections .kept .1 .0 in omega arith)
 
--- src/lib.rt:83:13
 read-tree-line-requires : tie.Need-read-tree-line-requires
 read-tree-line-requires c κs = ((sections-few _ _ _ _ _ _ (c .before .before .before .before .before .before .before .before .before .read-sections .ensures) _ (c .before .before .before .before .before .s .given .1), part-long _ _ (let few = sections-few _ _ _ _ _ _ (c .before .before .before .before .before .before .before .before .before .read-sections .ensures) _ (c .before .before .before .before .before .s .given .1) in let long = c .before .before .before .before .before .before .before .before .before .before .before .before .before .before .before .pre .0 .0 in let same = c .before .before .before .before .before .before .before .before .before .read-sections .kept .1 .0 in omega arith), c .before .before .before .before .before .before .before .before .before .before .before .before .before .before .before .pre .1 .0, c .before .before .before .before .before .before .before .before .before .before .before .before .before .before .before .pre .1 .1), sections-line _ _ _ _ _ _ (c .before .before .before .before .before .before .before .before .before .read-sections .ensures) _ (c .before .before .before .before .before .s .given .1))
 
--- src/lib.rt:63:1
 same-length : tie.Need-same-length
 same-length c = search needs
 
--- src/lib.rt:63:1
 returns-2 : tie.Need-returns-2
 returns-2 c = sheet-faulty _ _ _ _ _ (c .before .before .before .before .before .before .before .before .if1 .left) _ _ _ _ _ _ (c .before .before .before .before .before .read-sections .ensures) (c .before .fault .given .1)
 
--- src/lib.rt:63:1
 same-length-2 : tie.Need-same-length-2
 same-length-2 c = search needs
 
--- src/lib.rt:63:1
 returns-3 : tie.Need-returns-3
 returns-3 c = sheet-tree _ _ _ _ _ (c .before .before .before .before .before .before .before .before .before .before .before .before .before .if1 .left) _ _ _ _ _ _ _ _ (c .before .before .before .before .before .before .before .before .before .before .read-sections .ensures) (c .before .before .before .before .before .before .s .given .1) (c .before .before .before .before .before .before .before .before .before .before .before .before .before .before .before .before .pre .0 .1) (part-first (c .before .before .before .before .before .before .before .before .before .before .read-sections .last .1 .0) (c .before .before .before .before .before .before .s .given .0 .0 .tips)) (c .read-tree-line .ensures)
 

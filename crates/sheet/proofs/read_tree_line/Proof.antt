@@ -1,62 +1,47 @@
+-- `sheet::read_tree_line` meets its contract, case by case.
+-- Assumes nothing.
 use Rattle.lines.proofs.LineLaws.{line-read}
 use native.Mathlib.Numerals.{add-one-le}
 use native.Mathlib.Nat.{lt-of-le-of-lt}
 use Rattle.sheet.proofs.ReadSteps.{line-tree, line-no-tree, no-line, no-tree, more-after, whole-line}
 use mathlib.Core.Path.{sym, _∙_}
-use native.Mathlib.Omega.{arith}
 use borrow.Author.Needs.{needs}
 use Rattle.sheet.proofs.read_tree_line.Statement.{statement}
 use Rattle.sheet.proofs.read_tree_line.Tie as tie
-use Rattle.sheet.proofs.read_tree_line.Reads as reads
-use Rattle.sheet.proofs.read_tree_line.Lts as lts
-use Rattle.lines.proofs.line_end.Reads as line-end-reads
-use Rattle.newick.proofs.tree_line.Reads as tree-line-reads
 
--- src/lib.rt:50:26
 line-end-requires : tie.Need-line-end-requires
 line-end-requires c κs = search needs
 
--- src/lib.rt:50:19
 enum-known-end : tie.Need-enum-known-end
 enum-known-end c = search needs
 
--- src/lib.rt:51:29
 enum-told : tie.Need-enum-told
 enum-told c = search needs
 
--- src/lib.rt:51:9
 returns : tie.Need-returns
 returns c = no-line _ _ _ _ _ _ _ (sym (c .before .before .line-end .ensures) ∙ c .enum-told .given .1)
 
--- src/lib.rt:53:35
 tree-line-requires : tie.Need-tree-line-requires
 tree-line-requires c κs = search needs
 
--- src/lib.rt:53:26
 enum-known-nodes : tie.Need-enum-known-nodes
 enum-known-nodes c = search needs
 
--- src/lib.rt:54:29
 enum-told-2 : tie.Need-enum-told-2
 enum-told-2 c = search needs
 
--- src/lib.rt:54:9
 returns-2 : tie.Need-returns-2
 returns-2 c = no-tree _ _ _ _ _ _ _ _ (sym (c .before .before .before .before .before .before .before .before .line-end .ensures) ∙ c .before .before .before .before .before .before .end .given .1) (line-no-tree (c .before .before .tree-line .ensures) (c .enum-told2 .given .1))
 
--- src/lib.rt:56:8
 add-if1 : tie.Need-add-if1
 add-if1 c = record { fits = lt-of-le-of-lt (add-one-le (line-read _ _ _ (sym (c .before .before .before .before .before .before .before .before .before .line-end .ensures) ∙ c .before .before .before .before .before .before .before .end .given .1) .inside)) (c .before .before .before .before .before .before .before .before .before .before .before .before .good .0 .0) }
 
--- src/lib.rt:57:42
 add-t20 : tie.Need-add-t20
 add-t20 c = search needs
 
--- src/lib.rt:57:9
 returns-3 : tie.Need-returns-3
 returns-3 c = more-after _ _ _ _ _ _ _ _ (sym (c .before .before .before .before .before .before .before .before .before .before .line-end .ensures) ∙ c .before .before .before .before .before .before .before .before .end .given .1) _ _ (line-tree _ _ (c .before .before .before .before .tree-line .ensures) (c .before .before .nodes .given .1)) (c .if1 .taken)
 
--- src/lib.rt:35:1
 returns-4 : tie.Need-returns-4
 returns-4 c = whole-line _ _ _ _ _ _ _ _ (sym (c .before .before .before .before .before .before .before .before .before .before .line-end .ensures) ∙ c .before .before .before .before .before .before .before .before .end .given .1) _ _ (line-tree _ _ (c .before .before .before .before .tree-line .ensures) (c .before .before .nodes .given .1)) (c .if1 .left)
 

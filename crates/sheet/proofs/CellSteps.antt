@@ -1,0 +1,49 @@
+-- The turns of the loop that puts a column's cells.
+-- Assumes nothing.
+use mathlib.Core.List.{List}
+use mathlib.Core.Path.{_≡_, refl, ap, sym, _∙_}
+use Prim.Native.Nat.{ℕ, zero, suc, _+_, _<_, _≤_}
+use native.Mathlib.Nat.{not-suc-le-zero}
+use native.Mathlib.Omega.{arith}
+use lib.ListN.{length, getD, set}
+use lib.Seq.{getD-set-same, getD-set-other}
+use Rattle.parsimony.proofs.Order.{by-eq}
+use Rattle.cells.specs.IsRow.{rowAt}
+use Rattle.sheet.specs.Cells.{Filled}
+use Rattle.symbols.specs.Code.{codeOf}
+use Rattle.symbols.specs.Symbol.{answer, symbolOf}
+use Rattle.symbols.specs.declared.Symbol.the-variants.{States, Unlisted}
+
+-- the set of a byte that is listed, and of one that is not
+pub code-of : (byte set : ℕ) → symbolOf byte ≡ States set → codeOf byte ≡ set
+unfolding symbolOf answer
+code-of byte set h = go (codeOf byte) h
+  where
+    go : (c : ℕ) → answer c ≡ States set → c ≡ set
+    go zero g = absurd (let z : _≡_ {A = ℕ} 0 1 = cc in omega arith)
+    go (suc c) g = cc
+
+pub code-none : (byte : ℕ) → symbolOf byte ≡ Unlisted → codeOf byte ≡ 0
+unfolding symbolOf answer
+code-none byte h = go (codeOf byte) h
+  where
+    go : (c : ℕ) → answer c ≡ Unlisted → c ≡ 0
+    go zero g = refl
+    go (suc c) g = absurd (let z : _≡_ {A = ℕ} 0 1 = cc in omega arith)
+
+pub filled-none : (sheet : List ℕ) (c at j : ℕ) (cells : List ℕ) → Filled sheet c at j 0 cells
+filled-none sheet c at j cells = record { cell = λ r h. absurd (not-suc-le-zero h) }
+
+pub filled-more : (sheet : List ℕ) (c at j n : ℕ) (cells : List ℕ) (v : ℕ) → n < length cells
+    → v ≡ codeOf (getD sheet (rowAt at c n + j) 0) → Filled sheet c at j n cells → Filled sheet c at j (n + 1) (set cells n v)
+filled-more sheet c at j n cells v low is filled =
+    record {
+      cell = λ r h. by-eq r n
+          (λ e. ap (λ k. getD (set cells n v) k 0) e ∙ getD-set-same cells n v 0 low ∙ is
+          ∙ ap (λ k. codeOf (getD sheet (rowAt at c k + j) 0)) (sym e))
+          (λ ne. getD-set-other cells n r v 0 ne ∙ filled .cell r (omega arith));
+    }
+
+pub filled-few : (sheet : List ℕ) (c at j m n : ℕ) (cells : List ℕ) → m ≤ n → Filled sheet c at j n cells
+    → Filled sheet c at j m cells
+filled-few sheet c at j m n cells h filled = record { cell = λ r k. filled .cell r (omega arith) }

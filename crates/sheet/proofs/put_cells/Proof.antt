@@ -1,0 +1,77 @@
+-- `sheet::put_cells` meets its contract. The invariant: the cells of the rows below r are put. The measure is the
+-- number of rows left.
+-- Assumes nothing.
+use Rattle.sheet.proofs.CellSteps.{filled-none, filled-more, filled-few}
+use Rattle.sheet.specs.Cells.{Filled}
+use lib.ListN.{length, length-set}
+use Prim.Native.Nat.{_≤_, _-_}
+use mathlib.Core.Path.{_≡_}
+use native.Mathlib.Omega.{arith}
+use borrow.Author.Needs.{needs}
+use Rattle.sheet.proofs.put_cells.Statement.{statement}
+use Rattle.sheet.proofs.put_cells.Tie as tie
+
+abbrev Inv-loop : tie.InvT-loop
+Inv-loop sheet t c at j cells₀ r₀ cells r = (r ≤ t) × (length cells ≡ 512) × Filled sheet c at j r cells
+
+abbrev μ-loop : tie.MeasureT-loop
+μ-loop sheet t c at j cells₀ r₀ cells r = t - r
+
+loop-holds : tie.Need-loop-holds Inv-loop μ-loop
+loop-holds c = (omega arith, c .before .pre .3, filled-none _ _ _ _ _)
+
+add-cell-of : tie.Need-add-cell-of Inv-loop μ-loop
+add-cell-of c = search needs
+
+mul-cell-of : tie.Need-mul-cell-of Inv-loop μ-loop
+mul-cell-of c = record { fits = (let i = c .before .before .before .pre .2 .cell _ (c .loop-test .taken) in let g = c .before .before .before .good .0 .0 in omega arith) }
+
+add-cell-of-2 : tie.Need-add-cell-of-2 Inv-loop μ-loop
+add-cell-of-2 c = record { fits = (let i = c .before .before .before .pre .2 .cell _ (c .loop-test .taken) in let g = c .before .before .before .good .0 .0 in omega arith) }
+
+add-cell-of-3 : tie.Need-add-cell-of-3 Inv-loop μ-loop
+add-cell-of-3 c = record { fits = (let i = c .before .before .before .pre .2 .cell _ (c .loop-test .taken) in let g = c .before .before .before .good .0 .0 in omega arith) }
+
+shared-slice-read-cell-of : tie.Need-shared-slice-read-cell-of Inv-loop μ-loop
+shared-slice-read-cell-of c = c .before .before .before .before .pre .2 .cell _ (c .before .loop-test .taken)
+
+cell-of-requires : tie.Need-cell-of-requires Inv-loop μ-loop
+cell-of-requires c κs = search needs
+
+mul-cells : tie.Need-mul-cells Inv-loop μ-loop
+mul-cells c = search needs
+
+element-write-cells : tie.Need-element-write-cells Inv-loop μ-loop
+element-write-cells c = (let l = c .before .before .loop-test .taken in let few = c .before .before .before .before .before .pre .0 in omega arith)
+
+add-r : tie.Need-add-r Inv-loop μ-loop
+add-r c = search needs
+
+loop-less : tie.Need-loop-less Inv-loop μ-loop
+loop-less c = search needs
+
+loop-again : tie.Need-loop-again Inv-loop μ-loop
+loop-again c = (let l = c .before .before .loop-test .taken in omega arith, simp length-set (c .before .before .before .loop .inv .1), filled-more _ _ _ _ _ _ _ (let l = c .before .before .loop-test .taken in let few = c .before .before .before .before .before .pre .0 in let n = c .before .before .before .loop .inv .1 in omega arith) (c .cell-of .ensures) (c .before .before .before .loop .inv .2))
+
+returns : tie.Need-returns Inv-loop μ-loop
+returns c = filled-few _ _ _ _ _ _ _ (c .loop-test .left) (c .before .loop .inv .2)
+
+pub put-cells-spec : {M : Type 1} → statement M
+put-cells-spec =
+    tie.close
+    (tie.spec
+    Inv-loop
+    μ-loop
+    loop-holds
+    add-cell-of
+    mul-cell-of
+    add-cell-of-2
+    add-cell-of-3
+    shared-slice-read-cell-of
+    cell-of-requires
+    mul-cells
+    element-write-cells
+    add-r
+    loop-less
+    loop-again
+    returns)
