@@ -8,7 +8,7 @@ use Rattle.answers.proofs.RootLaws.{rules-node}
 use Rattle.answers.specs.Input.{Input, input, nodes}
 use Rattle.parsimony.specs.Least.{least}
 use Rattle.scorer.proofs.LinkLaws.{rules-ready, rules-state, least-is}
-use Rattle.scorer.proofs.ResultLaws.{score-right}
+use Rattle.scorer.proofs.Meaning.{score-right}
 use Rattle.scorer.proofs.RuleParts.{score-parts, root-inside}
 use Rattle.scorer.proofs.score_column.Statement.{statement}
 use Rattle.steps.specs.Lane.{entryAt}
