@@ -1,4 +1,4 @@
--- Laws of the five calls, and that no second outcome meets their promises.
+-- Laws of the calls, and that no second outcome meets their promises.
 -- Assumes nothing.
 pub mod RuleParts
 pub mod Outcomes

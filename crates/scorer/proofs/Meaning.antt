@@ -1,4 +1,4 @@
--- What the promises say by meaning is what the definitions by rows give, in every column of a table that keeps the rules.
+-- What the promises say by meaning is what the definitions by rows give, in a table that keeps the rules.
 -- Assumes nothing.
 use mathlib.Core.List.{[]}
 use mathlib.Core.Path.{_≡_, sym, _∙_, subst}
@@ -15,7 +15,17 @@ use Rattle.parsimony.specs.Sound.{Sound}
 use Rattle.parsimony.specs.Tree.{Rooted}
 use Rattle.parsimony.proofs.LabellingLaws.{labelling-same-agrees, labelling-same-cost}
 use Rattle.parsimony.proofs.LeastLaws.{lowest-rule}
-use Rattle.parsimony.proofs.Scoring.{score-unique, score-least, label-least, label-root-lowest, child-lowest, rule-forced, set-exactly, set-from-exactly, set-within}
+use Rattle.parsimony.proofs.Scoring.{
+  score-unique,
+  score-least,
+  label-least,
+  label-root-lowest,
+  child-lowest,
+  rule-forced,
+  set-exactly,
+  set-from-exactly,
+  set-within,
+}
 use Rattle.parsimony.proofs.SetLaws.{sets-within}
 use Rattle.parsimony.proofs.StateCountLaws.{gather-within}
 use Rattle.answers.specs.CallRules.{tableRules}

@@ -27,11 +27,15 @@ use Rattle.answers.proofs.RootLaws.{rules-sound}
 use Rattle.parsimony.specs.Column.{columnOf}
 use mathlib.Core.Path.{ap, sym, subst}
 
-module _ (I : Input) (rules : All (tableRules I [])) (j : ℕ) (inside : j < I .c) (rows : List ℕ) where
-  -- the root's state is a state
-  pub start-state : (start : Start) → StateStart I j start
-      → stateOf start (low (entryAt rows ((nodes I - 1) * I .s)) (I .s)) < I .s
-  start-state Free fits = low-within _ (I .s) (rules-state I rules)
+-- the root's state is a state where the one given and the free one are
+pub start-small : (start : Start) (x s : ℕ) → x < s → stateOf start 0 < s → stateOf start x < s
+start-small Free x s free given = free
+start-small (Given y) x s free given = given
+
+module _ (I : Input) (rules : All (tableRules I [])) (j : ℕ) (inside : j < I .c) where
+  -- a start state is a state
+  pub start-state : (start : Start) → StateStart I j start → stateOf start 0 < I .s
+  start-state Free fits = rules-state I rules
   start-state (Given x) fits = fits .0
 
   -- a start set is a 16-bit number
@@ -41,7 +45,7 @@ module _ (I : Input) (rules : All (tableRules I [])) (j : ℕ) (inside : j < I .
       let wide : 2 ^ I .s ≤ 2 ^ 16 = pow-mono (rules .1 .1 .0 .most) in
       omega (arith, fits .1)
 
-  module _ (held : Holds (row (column I j)) (nodes I) (I .s) rows) where
+  module _ (rows : List ℕ) (held : Holds (row (column I j)) (nodes I) (I .s) rows) where
     -- the states written down from the root's are the labelling from the start
     pub labels-right : (start : Start) (l : ℕ → ℕ) → StateStart I j start
         → Descent (nodes I - 1) (kidsAt (I .left) (I .right)) (chosen (I .s) (I .costs) rows)
