@@ -1,0 +1,7 @@
+-- Laws of the report's lines.
+-- Assumes nothing.
+pub mod LineLaws
+pub mod LineSteps
+pub mod QuietSteps
+pub mod ReportLaws
+pub mod Cases
