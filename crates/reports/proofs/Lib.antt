@@ -4,4 +4,5 @@ pub mod LineLaws
 pub mod LineSteps
 pub mod QuietSteps
 pub mod ReportLaws
+pub mod Outcomes
 pub mod Cases

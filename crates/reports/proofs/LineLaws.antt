@@ -34,7 +34,8 @@ pub letters-same : (l m : ℕ → ℕ) (n : ℕ) → ((v : ℕ) → v < n → l 
 unfolding letters
 letters-same l m zero same = refl
 letters-same l m (suc n) same =
-    ap₂ (λ low top. low ++ (letterOf top ∷ [])) (letters-same l m n (λ v h. same v (omega arith))) (same n (omega arith))
+    ap₂ (λ low top. low ++ (letterOf top ∷ [])) (letters-same l m n (λ v h. same v (omega arith)))
+    (same n (omega arith))
 
 -- one node more
 pub letters-more : (l : ℕ → ℕ) (n : ℕ) → letters l (n + 1) ≡ letters l n ++ (letterOf (l n) ∷ [])

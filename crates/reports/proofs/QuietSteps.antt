@@ -42,13 +42,15 @@ tallied-all w count i cells over so-far =
     omega (arith, so-far .rest)
 
 -- whether a base occurs often, by its count
-pub often-no : (cells : List ℕ) (x : ℕ) {w count : ℕ} → w ≡ one x → count ≡ tally w cells → count < 2 → 0 ≡ often cells x
+pub often-no : (cells : List ℕ) (x : ℕ) {w count : ℕ} → w ≡ one x → count ≡ tally w cells → count < 2
+    → 0 ≡ often cells x
 unfolding often
 often-no cells x {w} plain is few =
     let same = ap (λ u. tally u cells) plain in
     sym (pick-true _ _ (lt-ltb (tally (one x) cells) 2 (omega arith)))
 
-pub often-yes : (cells : List ℕ) (x : ℕ) {w count : ℕ} → w ≡ one x → count ≡ tally w cells → 2 ≤ count → 1 ≡ often cells x
+pub often-yes : (cells : List ℕ) (x : ℕ) {w count : ℕ} → w ≡ one x → count ≡ tally w cells → 2 ≤ count
+    → 1 ≡ often cells x
 unfolding often
 often-yes cells x {w} plain is many =
     let same = ap (λ u. tally u cells) plain in
@@ -63,9 +65,13 @@ four-bases f = omega arith
 pub quiet-yes : (cells : List ℕ) → often cells 0 + often cells 1 + often cells 2 + often cells 3 < 2
     → 1 ≡ quietMark cells
 unfolding quietMark
-quiet-yes cells few = let bases = four-bases (often cells) in sym (pick-true _ _ (lt-ltb (sum (often cells) 4) 2 (omega arith)))
+quiet-yes cells few =
+    let bases = four-bases (often cells) in
+    sym (pick-true _ _ (lt-ltb (sum (often cells) 4) 2 (omega arith)))
 
 pub quiet-no : (cells : List ℕ) → 2 ≤ often cells 0 + often cells 1 + often cells 2 + often cells 3
     → 0 ≡ quietMark cells
 unfolding quietMark
-quiet-no cells many = let bases = four-bases (often cells) in sym (pick-false _ _ (le-ltb (sum (often cells) 4) 2 (omega arith)))
+quiet-no cells many =
+    let bases = four-bases (often cells) in
+    sym (pick-false _ _ (le-ltb (sum (often cells) 4) 2 (omega arith)))

@@ -36,7 +36,14 @@ use Rattle.reports.specs.Line.{lineText, lineOf}
 use Rattle.reports.specs.OneState.{oneStates}
 use Rattle.reports.specs.Quiet.{often, quietMark}
 use Rattle.reports.specs.Reports.{Reported}
-use Rattle.reports.proofs.LineLaws.{letters-length, letters-same, field-length, line-length, ones-same, ones-most}
+use Rattle.reports.proofs.LineLaws.{
+  letters-length,
+  letters-same,
+  field-length,
+  line-length,
+  ones-same,
+  ones-most,
+}
 use Rattle.reports.proofs.LineSteps.{starts}
 
 -- a mark has one digit

@@ -143,15 +143,7 @@ pub fn column_line(
         Work::Done(score) => {
             let ones = one_states(sets, left.len());
             let quiet = quiet_mark(cells);
-            let length = put_line(
-                number,
-                wide(score),
-                quiet,
-                ones,
-                states,
-                left.len(),
-                line,
-            );
+            let length = put_line(number, wide(score), quiet, ones, states, left.len(), line);
             ColumnLine { length, score }
         }
         Work::Refused(_) => ColumnLine {

@@ -95,26 +95,26 @@ decimal-some =
     by-digits (λ n digits. 0 < length digits) (λ n small. omega arith)
     (λ n large some. let long = length-append (decimal (n / 10)) ((48 + n % 10) ∷ []) in omega arith)
 
--- each of them is a digit
+-- the bytes at each place are digits
+abbrev Digits : List ℕ → Type 0
+Digits text = (i : ℕ) → i < length text → (48 ≤ getD text i 0) × (getD text i 0 ≤ 57)
+
+-- one digit more
+digits-snoc : (text : List ℕ) (digit : ℕ) → Digits text → (48 ≤ digit) × (digit ≤ 57) → Digits (text ++ (digit ∷ []))
+digits-snoc text digit low top i h =
+    let long = length-append text (digit ∷ []) in
+    by-lt i (length text)
+    (λ inside. subst (λ d. (48 ≤ d) × (d ≤ 57)) (sym (List·getD-append text (digit ∷ []) 0 i inside)) (low i inside))
+    (λ over. let last : i ≡ length text = omega arith in
+    subst (λ d. (48 ≤ d) × (d ≤ 57))
+    (sym (ap (λ k. getD (text ++ (digit ∷ [])) k 0) last ∙ getD-append-seam text digit [] 0)) top)
+
+-- each byte is a digit
 pub decimal-digit : (n i : ℕ) → i < length (decimal n) → (48 ≤ getD (decimal n) i 0) × (getD (decimal n) i 0 ≤ 57)
 decimal-digit =
-    by-digits (λ n digits. (i : ℕ) → i < length digits → (48 ≤ getD digits i 0) × (getD digits i 0 ≤ 57)) one more
-  where
-    one : (n : ℕ) → n < 10 → (i : ℕ) → i < 1 → (48 ≤ getD ((48 + n) ∷ []) i 0) × (getD ((48 + n) ∷ []) i 0 ≤ 57)
-    one n small zero h = (omega arith, omega arith)
-    one n small (suc i) h = absurd (omega arith)
-
-    more : (n : ℕ) → 10 ≤ n
-        → ((i : ℕ) → i < length (decimal (n / 10)) → (48 ≤ getD (decimal (n / 10)) i 0) × (getD (decimal (n / 10)) i 0 ≤ 57))
-        → (i : ℕ) → i < length (decimal (n / 10) ++ ((48 + n % 10) ∷ []))
-        → (48 ≤ getD (decimal (n / 10) ++ ((48 + n % 10) ∷ [])) i 0) × (getD (decimal (n / 10) ++ ((48 + n % 10) ∷ [])) i 0 ≤ 57)
-    more n large tens i h =
-        let long = length-append (decimal (n / 10)) ((48 + n % 10) ∷ []) in
-        by-lt i (length (decimal (n / 10)))
-        (λ low. subst (λ d. (48 ≤ d) × (d ≤ 57)) (sym (List·getD-append (decimal (n / 10)) _ 0 i low)) (tens i low))
-        (λ top. subst (λ d. (48 ≤ d) × (d ≤ 57))
-        (sym (ap (λ k. getD (decimal (n / 10) ++ ((48 + n % 10) ∷ [])) k 0) (let e : i ≡ length (decimal (n / 10)) = omega arith in e)
-        ∙ getD-append-seam (decimal (n / 10)) (48 + n % 10) [] 0)) (omega arith, omega arith))
+    by-digits (λ n. Digits)
+    (λ n small. digits-snoc [] (48 + n) (λ i h. absurd (omega arith)) (omega arith, omega arith))
+    (λ n large tens. digits-snoc (decimal (n / 10)) (48 + n % 10) tens (omega arith, omega arith))
 
 -- and the first is not 0 unless the number is
 pub decimal-lead : (n : ℕ) → 0 < n → 48 < getD (decimal n) 0 0

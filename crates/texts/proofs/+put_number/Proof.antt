@@ -1,18 +1,20 @@
-use lib.ListN.{length}
-use Rattle.texts.proofs.NumberSteps.{room-some, room-tens, put-small, put-tens}
-use Rattle.texts.proofs.PutLaws.{put-long}
-use borrow.Author.Needs.{needs}
-use native.Mathlib.Omega.{arith}
+-- The proof of the cycle of calls {put_number}: the digits of the tens, and then the last. The measure is the number.
+-- Assumes nothing.
 use Prim.Native.Nat.{ℕ, _<_}
+use native.Mathlib.Omega.{arith}
+use borrow.Author.Needs.{needs}
 use borrow.Fn.Kinds.{In}
 use borrow.Fn.PlainCycle.{Measures, is, falls, and}
-use Rattle.texts.proofs.put_number.Reads as put-number
-use Rattle.texts.proofs.put_number.Kinds as put-number-kinds
+use lib.ListN.{length}
+use Rattle.texts.proofs.+put_number.{statement}
+use Rattle.texts.proofs.+put_number.Tie.{close}
+use Rattle.texts.proofs.NumberSteps.{room-some, room-tens, put-small, put-tens}
+use Rattle.texts.proofs.PutLaws.{put-long}
 use Rattle.texts.proofs.+put_number.Lts-put_number as put-number-lts
 use Rattle.texts.proofs.digit.Reads as digit-reads
 use Rattle.texts.proofs.put_byte.Reads as put-byte-reads
-use Rattle.texts.proofs.+put_number.{statement}
-use Rattle.texts.proofs.+put_number.Tie.{close}
+use Rattle.texts.proofs.put_number.Kinds as put-number-kinds
+use Rattle.texts.proofs.put_number.Reads as put-number
 
 abbrev μ-put-number : Measures 1 put-number-kinds.ps ℕ
 μ-put-number κs a = a .0
@@ -25,7 +27,6 @@ abbrev put-number-below : ℕ → In 1 put-number-kinds.ps
 put-number-below t =
     and 1 put-number-kinds.ps (falls 1 put-number-kinds.ps _<_ μ-put-number t) put-number.Pre
 
--- src/lib.rt:45:25
 put-number-digit-requires : (t : ℕ) → put-number-lts.Need-digit-requires (
   digit-reads.Asked,
   digit-reads.Learnt,
@@ -36,7 +37,6 @@ put-number-digit-requires : (t : ℕ) → put-number-lts.Need-digit-requires (
 ) (put-number-at t) put-number.Post
 put-number-digit-requires t c κs = search needs
 
--- src/lib.rt:45:9
 put-number-put-byte-requires : (t : ℕ) → put-number-lts.Need-put-byte-requires (
   digit-reads.Asked,
   digit-reads.Learnt,
@@ -46,9 +46,9 @@ put-number-put-byte-requires : (t : ℕ) → put-number-lts.Need-put-byte-requir
   put-number.Post,
 ) (put-number-at t) put-number.Post
 put-number-put-byte-requires t c κs =
-    room-some (c .before .before .before .before .args .n) (c .before .before .before .before .args .at) (length (c .before .before .before .before .args .line .now)) (c .before .before .before .before .pre .1)
+    let start = c .before .before .before .before in
+    room-some (start .args .n) (start .args .at) (length (start .args .line .now)) (start .pre .1)
 
--- src/lib.rt:45:9
 put-number-same-length : (t : ℕ) → put-number-lts.Need-same-length (
   digit-reads.Asked,
   digit-reads.Learnt,
@@ -59,7 +59,6 @@ put-number-same-length : (t : ℕ) → put-number-lts.Need-same-length (
 ) (put-number-at t) put-number.Post
 put-number-same-length t c = search needs
 
--- src/lib.rt:45:9
 put-number-returns : (t : ℕ) → put-number-lts.Need-returns (
   digit-reads.Asked,
   digit-reads.Learnt,
@@ -69,9 +68,10 @@ put-number-returns : (t : ℕ) → put-number-lts.Need-returns (
   put-number.Post,
 ) (put-number-at t) put-number.Post
 put-number-returns t c =
-    put-small (c .before .before .before .before .before .if1 .taken) (c .before .before .before .before .digit .ensures) (c .before .before .put-byte .ensures)
+    let digit = c .before .before .before .before .digit in
+    let if1 = c .before .before .before .before .before .if1 in
+    put-small (if1 .taken) (digit .ensures) (c .before .before .put-byte .ensures)
 
--- src/lib.rt:47:9
 put-number-put-number-requires : (t : ℕ) → put-number-lts.Need-put-number-requires (
   digit-reads.Asked,
   digit-reads.Learnt,
@@ -81,10 +81,12 @@ put-number-put-number-requires : (t : ℕ) → put-number-lts.Need-put-number-re
   put-number.Post,
 ) (put-number-at t) put-number.Post
 put-number-put-number-requires t c κs =
-    let tens = room-tens (c .before .before .before .args .n) (c .before .before .before .args .at) (length (c .before .before .before .args .line .now)) (c .before .if1 .left) (c .before .before .before .pre .1) in
-    (omega (arith, c .before .if1 .left, c .before .before .before .pre .0), omega (arith, tens))
+    let start = c .before .before .before in
+    let tens =
+    room-tens (start .args .n) (start .args .at) (length (start .args .line .now)) (c .before .if1 .left)
+    (start .pre .1) in
+    (omega (arith, c .before .if1 .left, start .pre .0), omega (arith, tens))
 
--- src/lib.rt:48:14
 put-number-digit-requires-2 : (t : ℕ) → put-number-lts.Need-digit-requires-2 (
   digit-reads.Asked,
   digit-reads.Learnt,
@@ -95,7 +97,6 @@ put-number-digit-requires-2 : (t : ℕ) → put-number-lts.Need-digit-requires-2
 ) (put-number-at t) put-number.Post
 put-number-digit-requires-2 t c κs = search needs
 
--- src/lib.rt:48:5
 put-number-put-byte-requires-2 : (t : ℕ) → put-number-lts.Need-put-byte-requires-2 (
   digit-reads.Asked,
   digit-reads.Learnt,
@@ -105,12 +106,15 @@ put-number-put-byte-requires-2 : (t : ℕ) → put-number-lts.Need-put-byte-requ
   put-number.Post,
 ) (put-number-at t) put-number.Post
 put-number-put-byte-requires-2 t c κs =
-    let tens = room-tens (c .before .before .before .before .before .before .before .before .args .n) (c .before .before .before .before .before .before .before .before .args .at) (length (c .before .before .before .before .before .before .before .before .args .line .now)) (c .before .before .before .before .before .before .if1 .left) (c .before .before .before .before .before .before .before .before .pre .1) in
-    let long = put-long (c .before .before .before .before .put-number .ensures) in
-    let end = c .before .before .before .before .put-number .ensures .end in
+    let put-number = c .before .before .before .before .put-number in
+    let if1 = c .before .before .before .before .before .before .if1 in
+    let start = c .before .before .before .before .before .before .before .before in
+    let tens =
+    room-tens (start .args .n) (start .args .at) (length (start .args .line .now)) (if1 .left) (start .pre .1) in
+    let long = put-long (put-number .ensures) in
+    let end = put-number .ensures .end in
     omega arith
 
--- src/lib.rt:40:1
 put-number-same-length-2 : (t : ℕ) → put-number-lts.Need-same-length-2 (
   digit-reads.Asked,
   digit-reads.Learnt,
@@ -121,7 +125,6 @@ put-number-same-length-2 : (t : ℕ) → put-number-lts.Need-same-length-2 (
 ) (put-number-at t) put-number.Post
 put-number-same-length-2 t c = search needs
 
--- src/lib.rt:40:1
 put-number-returns-2 : (t : ℕ) → put-number-lts.Need-returns-2 (
   digit-reads.Asked,
   digit-reads.Learnt,
@@ -131,7 +134,10 @@ put-number-returns-2 : (t : ℕ) → put-number-lts.Need-returns-2 (
   put-number.Post,
 ) (put-number-at t) put-number.Post
 put-number-returns-2 t c =
-    put-tens (c .before .before .before .before .before .before .before .before .before .if1 .left) (c .before .before .before .before .digit2 .ensures) (c .before .before .before .before .before .before .before .put-number .ensures) (c .before .before .put-byte2 .ensures)
+    let digit2 = c .before .before .before .before .digit2 in
+    let put-number = c .before .before .before .before .before .before .before .put-number in
+    let if1 = c .before .before .before .before .before .before .before .before .before .if1 in
+    put-tens (if1 .left) (digit2 .ensures) (put-number .ensures) (c .before .before .put-byte2 .ensures)
 
 pub +put-number-spec : {M : Type 1} → statement M
 +put-number-spec = close μ-put-number λ t. put-number-lts.spec (

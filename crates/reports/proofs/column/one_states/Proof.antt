@@ -1,13 +1,12 @@
-use Rattle.reports.proofs.LineSteps.{Counted, counted-none, counted-more, counted-most, counted-all}
-use lib.ListN.{getD}
+-- `one_states` meets its contract. The first v sets are counted; the measure is the number of sets left.
+-- Assumes nothing.
 use Prim.Native.Nat.{_-_}
 use native.Mathlib.Omega.{arith}
 use borrow.Author.Needs.{needs}
+use lib.ListN.{getD}
+use Rattle.reports.proofs.LineSteps.{Counted, counted-none, counted-more, counted-most, counted-all}
 use Rattle.reports.proofs.column.one_states.Statement.{statement}
 use Rattle.reports.proofs.column.one_states.Tie as tie
-use Rattle.reports.proofs.column.one_states.Reads as reads
-use Rattle.reports.proofs.column.one_states.Lts as lts
-use Rattle.reports.proofs.column.one_state.Reads as one-state-reads
 
 abbrev Inv-loop : tie.InvT-loop
 Inv-loop sets n count₀ v₀ count v = Counted 16 (λ u. getD sets u 0) n count v
@@ -15,39 +14,39 @@ Inv-loop sets n count₀ v₀ count v = Counted 16 (λ u. getD sets u 0) n count
 abbrev μ-loop : tie.MeasureT-loop
 μ-loop sets n count₀ v₀ count v = n - v
 
--- src/column.rt:110:5
 loop-holds : tie.Need-loop-holds Inv-loop μ-loop
-loop-holds c = counted-none 16 (λ u. getD (c .before .args .sets .now) u 0) (c .before .args .n)
+loop-holds c =
+    let start = c .before in
+    counted-none 16 (λ u. getD (start .args .sets .now) u 0) (start .args .n)
 
--- src/column.rt:111:28
 mul-one-state : tie.Need-mul-one-state Inv-loop μ-loop
 mul-one-state c = search needs
 
--- src/column.rt:111:28
 shared-slice-read-one-state : tie.Need-shared-slice-read-one-state Inv-loop μ-loop
 shared-slice-read-one-state c = search needs
 
--- src/column.rt:111:18
 one-state-requires : tie.Need-one-state-requires Inv-loop μ-loop
 one-state-requires c κs = search needs
 
--- src/column.rt:111:9
 add-count : tie.Need-add-count Inv-loop μ-loop
-add-count c = let most = counted-most (c .before .before .before .loop .inv) in omega (arith, most, c .one-state .ensures .1, c .before .before .loop-test .taken, c .before .before .before .before .before .pre)
+add-count c =
+    let start = c .before .before .before .before .before in
+    let most =
+    counted-most (c .before .before .before .loop .inv) in omega
+    (arith, most, c .one-state .ensures .1, c .before .before .loop-test .taken, start .pre)
 
--- src/column.rt:112:9
 add-v : tie.Need-add-v Inv-loop μ-loop
 add-v c = search needs
 
--- src/column.rt:110:5
 loop-less : tie.Need-loop-less Inv-loop μ-loop
 loop-less c = search needs
 
--- src/column.rt:110:5
 loop-again : tie.Need-loop-again Inv-loop μ-loop
-loop-again c = counted-more 16 (λ u. getD (c .before .before .before .before .before .args .sets .now) u 0) (c .before .before .before .before .before .args .n) _ _ _ (c .before .before .loop-test .taken) (c .one-state .ensures .0) (c .before .before .before .loop .inv)
+loop-again c =
+    let start = c .before .before .before .before .before in
+    counted-more 16 (λ u. getD (start .args .sets .now) u 0) (start .args .n) _ _ _
+    (c .before .before .loop-test .taken) (c .one-state .ensures .0) (c .before .before .before .loop .inv)
 
--- src/column.rt:104:1
 returns : tie.Need-returns Inv-loop μ-loop
 returns c = counted-all (c .loop-test .left) (c .before .loop .inv)
 

@@ -1,13 +1,11 @@
-use Rattle.reports.proofs.QuietSteps.{Tallied, tallied-none, tallied-more, tallied-all}
-use lib.ListN.{length}
+-- `count_cells` meets its contract. The first i cells are counted; the measure is the number of cells left.
+-- Assumes nothing.
 use Prim.Native.Nat.{_-_}
-use native.Mathlib.Omega.{arith}
 use borrow.Author.Needs.{needs}
+use lib.ListN.{length}
+use Rattle.reports.proofs.QuietSteps.{Tallied, tallied-none, tallied-more, tallied-all}
 use Rattle.reports.proofs.quiet.count_cells.Statement.{statement}
 use Rattle.reports.proofs.quiet.count_cells.Tie as tie
-use Rattle.reports.proofs.quiet.count_cells.Reads as reads
-use Rattle.reports.proofs.quiet.count_cells.Lts as lts
-use Rattle.reports.proofs.quiet.same.Reads as same-reads
 
 abbrev Inv-loop : tie.InvT-loop
 Inv-loop cells set count₀ i₀ count i = Tallied set cells count i
@@ -15,41 +13,39 @@ Inv-loop cells set count₀ i₀ count i = Tallied set cells count i
 abbrev μ-loop : tie.MeasureT-loop
 μ-loop cells set count₀ i₀ count i = length cells - i
 
--- src/quiet.rt:24:5
 loop-holds : tie.Need-loop-holds Inv-loop μ-loop
-loop-holds c = tallied-none (c .before .args .set) (c .before .args .cells .now)
+loop-holds c =
+    let start = c .before in
+    tallied-none (start .args .set) (start .args .cells .now)
 
--- src/quiet.rt:25:23
 mul-same : tie.Need-mul-same Inv-loop μ-loop
 mul-same c = search needs
 
--- src/quiet.rt:25:23
 shared-slice-read-same : tie.Need-shared-slice-read-same Inv-loop μ-loop
 shared-slice-read-same c = search needs
 
--- src/quiet.rt:25:18
 same-requires : tie.Need-same-requires Inv-loop μ-loop
 same-requires c κs = search needs
 
--- src/quiet.rt:25:9
 add-count : tie.Need-add-count Inv-loop μ-loop
 add-count c = search needs
 
--- src/quiet.rt:26:9
 add-i : tie.Need-add-i Inv-loop μ-loop
 add-i c = search needs
 
--- src/quiet.rt:24:5
 loop-less : tie.Need-loop-less Inv-loop μ-loop
 loop-less c = search needs
 
--- src/quiet.rt:24:5
 loop-again : tie.Need-loop-again Inv-loop μ-loop
-loop-again c = tallied-more (c .before .before .before .before .before .args .set) _ _ _ (c .before .before .before .before .before .args .cells .now) (c .before .before .loop-test .taken) (c .before .before .before .loop .inv) (c .same .ensures)
+loop-again c =
+    let start = c .before .before .before .before .before in
+    tallied-more (start .args .set) _ _ _ (start .args .cells .now) (c .before .before .loop-test .taken)
+    (c .before .before .before .loop .inv) (c .same .ensures)
 
--- src/quiet.rt:19:1
 returns : tie.Need-returns Inv-loop μ-loop
-returns c = tallied-all (c .before .before .before .args .set) _ _ (c .before .before .before .args .cells .now) (c .loop-test .left) (c .before .loop .inv)
+returns c =
+    let start = c .before .before .before in
+    tallied-all (start .args .set) _ _ (start .args .cells .now) (c .loop-test .left) (c .before .loop .inv)
 
 pub count-cells-spec : {M : Type 1} → statement M
 count-cells-spec =
