@@ -50,6 +50,11 @@ setsRules I j start sets room =
 abbrev pub handUpRules : Input → ℕ → ℕ → ℕ → List (Type 0)
 handUpRules I j entries room = tableRules I ((j < I .c) ∷ Untested ∷ Fits I (I .s) entries room ∷ [])
 
+-- the whole work on column j, with room for so many states, sets and row entries
+abbrev pub workRules : Input → ℕ → ℕ → ℕ → ℕ → List (Type 0)
+workRules I j states sets room =
+    tableRules I ((j < I .c) ∷ Untested ∷ ((nodes I ≤ states) × Fits I (nodes I) sets room) ∷ [])
+
 -- counting column j by sets, with room for so many sets; handed rows are not tested
 abbrev pub countRules : Input → ℕ → ℕ → List (Type 0)
 countRules I j sets =

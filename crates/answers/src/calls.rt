@@ -3,7 +3,14 @@ ghost use mathlib.Core.List.{[]};
 ghost use Prim.Native.Nat.{_*_, _≤_};
 ghost use Rattle.parsimony.specs.Tells.{Tells};
 ghost use Rattle.answers.specs.Answers.{Given};
-ghost use Rattle.answers.specs.CallRules.{scoreRules, labelRules, setsRules, handUpRules, countRules};
+ghost use Rattle.answers.specs.CallRules.{
+  scoreRules,
+  labelRules,
+  setsRules,
+  handUpRules,
+  workRules,
+  countRules,
+};
 ghost use Rattle.answers.specs.Input.{input};
 use crate::Answer;
 use crate::Refusal;
@@ -148,6 +155,40 @@ pub fn hand_up_tests(
         return Answer::Refused(Refusal::Which);
     }
     if !room_fits(left.len(), s, s, row, rows) {
+        return Answer::Refused(Refusal::Room);
+    }
+    Answer::Done
+}
+
+// The tests of the whole work on column j, with room for so many states, sets and row entries.
+pub fn work_tests(
+    left: &[u16],
+    right: &[u16],
+    s: usize,
+    costs: &[u16],
+    c: usize,
+    cells: &[u16],
+    handed: &[u32],
+    j: usize,
+    states: usize,
+    sets: usize,
+    rows: usize,
+) -> Answer
+    ensures { λ r. ⌜ Given (workRules
+        (input (now (left .entry)) (now (right .entry)) s (now (costs .entry)) c (now (cells .entry))
+        (now (handed .entry))) j states sets rows) (now (left .entry)) (now (right .entry)) r ⌝ }
+{
+    let before = table_tests(left, right, s, costs, c, cells, handed);
+    if let Answer::Refused(r) = before {
+        return Answer::Refused(r);
+    }
+    if c <= j {
+        return Answer::Refused(Refusal::Which);
+    }
+    if states < left.len() {
+        return Answer::Refused(Refusal::Room);
+    }
+    if !room_fits(left.len(), s, left.len(), sets, rows) {
         return Answer::Refused(Refusal::Room);
     }
     Answer::Done

@@ -3,7 +3,6 @@
 use mathlib.Core.List.{List, []}
 use mathlib.Core.Path.{_≡_, refl, _∙_, subst}
 use Prim.Native.Nat.{ℕ, _-_, _<_}
-use native.Mathlib.Omega.{arith}
 use lib.ListN.{getD}
 use Rattle.parsimony.specs.Allowed.{mostHanded}
 use Rattle.parsimony.specs.Column.{Column, columnOf}
@@ -12,9 +11,6 @@ use Rattle.parsimony.specs.Least.{lowest}
 use Rattle.parsimony.specs.NodeSet.{setsFrom, freeSet, sets}
 use Rattle.parsimony.specs.Row.{row, score}
 use Rattle.parsimony.specs.Sound.{Sound}
-use Rattle.parsimony.proofs.LeastLaws.{lowest-rule}
-use Rattle.parsimony.proofs.Scoring.{score-unique, score-least, label-least, label-root-lowest, label-child-lowest, child-lowest, rule-forced, set-exactly, set-from-exactly, set-within}
-use Rattle.parsimony.proofs.SetLaws.{sets-within}
 use Rattle.answers.specs.CallRules.{tableRules}
 use Rattle.answers.specs.Input.{Input, nodes, column}
 use Rattle.answers.specs.Rules.{All}
@@ -22,14 +18,13 @@ use Rattle.answers.specs.Starts.{StateStart, SetStart}
 use Rattle.answers.specs.declared.Answer.{Answer}
 use Rattle.answers.specs.declared.Answer.the-variants.{Done, Refused}
 use Rattle.answers.specs.declared.Start.{Start}
-use Rattle.answers.specs.declared.Start.the-variants.{Free, Given}
+use Rattle.answers.specs.declared.Start.the-variants.{Given}
 use Rattle.answers.proofs.RootLaws.{rules-sound}
 use Rattle.answers.proofs.RuleLaws.{all-not-first}
 use Rattle.scorer.specs.Promises.{Scored, Labelled, SetsFound, HandedUp}
-use Rattle.scorer.specs.Results.{IsLabelling, IsSet}
 use Rattle.scorer.specs.Starts.{stateOf}
-use Rattle.scorer.proofs.LabelOutcomes.{label-unique}
-use Rattle.scorer.proofs.Outcomes.{set-unique, entry-unique}
+use Rattle.scorer.proofs.Meaning.{score-meant, label-meant, set-meant}
+use Rattle.scorer.proofs.Outcomes.{entry-unique}
 use Rattle.scorer.proofs.ResultLaws.{row-entry}
 use Rattle.cuts.specs.Call.{ScoreCall, HandUpCall, LabelCall, SetsCall}
 use Rattle.answers.specs.Answers as Answers
@@ -65,36 +60,6 @@ module _ (I : Input) (rules : All (tableRules I [])) (j : ℕ) (inside : j < I .
   sound : Sound mostHanded P
   sound = rules-sound I rules j inside
 
-  -- the labelling by rows is that of the start
-  pub labelling-of : (start : Start) → StateStart I j start
-      → IsLabelling P start (labelFrom lowest P (stateOf start (freeStart P)))
-  unfolding columnOf label
-  labelling-of Free ok =
-      record {
-        least = (label-least mostHanded P sound, label-root-lowest mostHanded P sound);
-        children = λ p u. label-child-lowest mostHanded P sound p u;
-      }
-  labelling-of (Given x) ok =
-      record {
-        least = rule-forced mostHanded P sound lowest lowest-rule x (ok .0) (ok .1);
-        children = λ p u. child-lowest mostHanded P sound x p u;
-      }
-
-  -- the sets by rows are those of the start
-  pub set-of : (start : Start) → SetStart I j start → (v : ℕ) → v < nodes I
-      → IsSet P start v (setsFrom P (stateOf start (freeSet P)) v)
-  unfolding columnOf sets
-  set-of Free ok v h =
-      record {
-        within = set-within mostHanded P sound v (omega arith);
-        members = λ y. set-exactly mostHanded P sound v y (omega arith);
-      }
-  set-of (Given w) ok v h =
-      record {
-        within = sets-within mostHanded P sound w (ok .1) v (omega arith);
-        members = λ y. set-from-exactly mostHanded P sound w (ok .1) (ok .2) v y (omega arith);
-      }
-
   -- what a call of handing up leaves is the root's row
   pub hand-up-row : (e : ℕ → ℕ) → HandUpCall I j e → (x : ℕ) → x < I .s → e x ≡ row P (nodes I - 1) x
   unfolding columnOf
@@ -108,7 +73,7 @@ module _ (I : Input) (rules : All (tableRules I [])) (j : ℕ) (inside : j < I .
   score-of S call =
       let a = rules-answer I rules .score _ _ (call .room) (call .answer) (call .promise .answer) in
       let written = subst (λ b. Scored I (call .scores) (call .rows) b (call .scoresAfter) (call .rowsAfter)) a (call .promise) .lists in
-      call .result j inside ∙ score-unique P _ _ (written .each .each j inside) (score-least mostHanded P sound)
+      call .result j inside ∙ score-meant I rules j inside _ (written .each .each j inside)
 
   -- what a call of labelling leaves is the labelling by rows
   pub labels-of : (start : Start) (l : ℕ → ℕ) → StateStart I j start → LabelCall I j start l
@@ -118,7 +83,7 @@ module _ (I : Input) (rules : All (tableRules I [])) (j : ℕ) (inside : j < I .
       let a = rules-answer I rules .label j start _ _ inside ok (call .room) (call .answer) (call .promise .answer) in
       let written = subst (λ b. Labelled I j start (call .states) (call .rows) b (call .statesAfter) (call .rowsAfter)) a (call .promise) .lists in
       call .result v h
-      ∙ label-unique P (sound .tree) start (λ u. getD (call .statesAfter) u 0) _ (written .labels) (labelling-of start ok) v (omega arith)
+      ∙ label-meant I rules j inside start (λ u. getD (call .statesAfter) u 0) ok (written .labels) v h
 
   -- what a call for the sets leaves are the sets by rows
   pub sets-of : (start : Start) (S : ℕ → ℕ) → SetStart I j start → SetsCall I j start S
@@ -126,4 +91,4 @@ module _ (I : Input) (rules : All (tableRules I [])) (j : ℕ) (inside : j < I .
   sets-of start S ok call v h =
       let a = rules-answer I rules .sets j start _ _ inside ok (call .room) (call .answer) (call .promise .answer) in
       let written = subst (λ b. SetsFound I j start (call .sets) (call .rows) b (call .setsAfter) (call .rowsAfter)) a (call .promise) .lists in
-      call .result v h ∙ set-unique P start v _ _ (written .each .each v h) (set-of start ok v h)
+      call .result v h ∙ set-meant I rules j inside start v _ ok h (written .each .each v h)

@@ -9,12 +9,11 @@ use Rattle.parsimony.specs.Allowed.{mostHanded}
 use Rattle.parsimony.specs.Barred.{barred}
 use Rattle.parsimony.specs.Column.{Column, columnOf}
 use Rattle.parsimony.specs.Labelling.{IsScore}
-use Rattle.parsimony.specs.Least.{LowestLeast}
-use Rattle.parsimony.specs.Row.{row, score, through, total}
+use Rattle.parsimony.specs.Row.{row, score, total}
 use Rattle.parsimony.specs.Sound.{Sound}
 use Rattle.parsimony.specs.Sum.{sum}
 use Rattle.parsimony.specs.Table.{handed}
-use Rattle.parsimony.specs.Tree.{Kids, tip, two, Rooted}
+use Rattle.parsimony.specs.Tree.{Kids, tip, two}
 use Rattle.parsimony.proofs.ColumnLaws.{whole-sound}
 use Rattle.parsimony.proofs.Fits.{whole-most, whole-tip}
 use Rattle.parsimony.proofs.Order.{by-eq}
@@ -25,34 +24,15 @@ use Rattle.answers.specs.Input.{Input, nodes, tipsIn, column}
 use Rattle.answers.specs.Rules.{All}
 use Rattle.answers.specs.Starts.{StateStart, SetStart}
 use Rattle.answers.specs.declared.Start.{Start}
-use Rattle.answers.specs.declared.Start.the-variants.{Free, Given}
 use Rattle.answers.proofs.RootLaws.{rules-legal, rules-sound}
-use Rattle.scorer.specs.Results.{StartLabels, IsLabelling, IsSet, IsEntry}
-use Rattle.scorer.proofs.ResultLaws.{least-same, from-same, row-entry}
+use Rattle.scorer.specs.Results.{IsLabelling, IsSet, IsEntry}
+use Rattle.scorer.proofs.ResultLaws.{row-entry}
 use Rattle.cuts.specs.Call.{Answers}
 use Rattle.cuts.specs.Cut.{CutAt, part}
 use Rattle.cuts.specs.Cuttable.{Cuttable}
 use Rattle.cuts.specs.Plan.{Plan, SendsUp, ScoresBy, LabelsBy, SetsBy, Everywhere}
-use Rattle.cuts.proofs.CallLaws.{labelling-of, set-of}
+use Rattle.scorer.proofs.Meaning.{labelling-same, labelling-of, set-of}
 use Rattle.cuts.proofs.PlanResults.{sends-right, sent-right, scores-right, labels-right, sets-right, plan-answers}
-
--- a labelling with the same states as one from a start is one from that start
-labelling-same : (P : Column) → Rooted (P .last) (P .kids) → (start : Start) (l m : ℕ → ℕ) → ((v : ℕ) → v ≤ P .last → l v ≡ m v)
-    → IsLabelling P start m → IsLabelling P start l
-labelling-same P tree start l m same is =
-    record {
-      least = root start (is .least);
-      children = λ p u hp c. let b = tree .below hp c in
-          subst (λ y. LowestLeast (through P (row P u) (l p)) (P .states) y) (sym (same u (omega arith)))
-          (subst (λ y. LowestLeast (through P (row P u) y) (P .states) (m u)) (sym (same p hp)) (is .children p u hp c));
-    }
-  where
-    root : (start : Start) → StartLabels P start m → StartLabels P start l
-    root Free least = (
-      least-same P tree l m same (least .0),
-      subst (LowestLeast (row P (P .last)) (P .states)) (sym (same (P .last) (omega arith))) (least .1),
-    )
-    root (Given x) least = from-same P tree x l m same least
 
 -- a row entry of a column without handed rows may be handed up
 whole-small : (P : Column) → Sound 0 P → (v x : ℕ) → v ≤ P .last → x < P .states → (k : Kids) → P .kids v ≡ k

@@ -25,7 +25,7 @@ use Rattle.scorer.specs.Results.{StartLabels, TakenBy}
 use Rattle.scorer.specs.Starts.{stateOf}
 use Rattle.cuts.specs.Cut.{CutAt, part, inPart}
 use Rattle.cuts.specs.Cuttable.{Cuttable}
-use Rattle.cuts.proofs.CallLaws.{labelling-of, set-of}
+use Rattle.scorer.proofs.Meaning.{labelling-of, set-of}
 use Rattle.cuts.proofs.CutLaws.{part-stands}
 use Rattle.cuts.proofs.PlanLaws.{top-row}
 

@@ -1,6 +1,6 @@
--- No second outcome meets the promise of labelling.
+-- No second outcome meets the promise of labelling, or that of the whole work on a column.
 -- Assumes nothing.
-use mathlib.Core.List.{List}
+use mathlib.Core.List.{List, []}
 use mathlib.Core.Path.{_≡_, ap, sym, _∙_, subst}
 use Prim.Native.Nat.{ℕ, _≤_, _<_}
 use native.Mathlib.Omega.{arith}
@@ -11,16 +11,24 @@ use Rattle.parsimony.specs.Row.{row, through}
 use Rattle.parsimony.specs.Tree.{Rooted}
 use Rattle.parsimony.proofs.LeastLaws.{lowest-least-unique}
 use Rattle.parsimony.proofs.Order.{by-lt, downward}
+use Rattle.parsimony.proofs.Scoring.{score-unique}
 use Rattle.parsimony.proofs.TreeLaws.{parent-has}
+use Rattle.answers.specs.Answers.{GivenFor}
+use Rattle.answers.specs.CallRules.{tableRules, workRules}
 use Rattle.answers.specs.Input.{Input, column}
+use Rattle.answers.specs.Rules.{All}
 use Rattle.answers.specs.declared.Answer.{Answer}
 use Rattle.answers.specs.declared.Start.{Start}
 use Rattle.answers.specs.declared.Start.the-variants.{Free, Given}
 use Rattle.answers.proofs.RootLaws.{rules-sound}
-use Rattle.scorer.specs.Promises.{Labelled}
+use Rattle.scorer.specs.Lent.{LeftBy}
+use Rattle.scorer.specs.Promises.{Labelled, WorkWritten, ColumnWorked}
 use Rattle.scorer.specs.Results.{StartLabels, IsLabelling}
-use Rattle.scorer.proofs.Outcomes.{outcome, kept-same, room-same}
-use Rattle.scorer.proofs.RuleParts.{label-parts}
+use Rattle.scorer.specs.Works.{workAnswer, scoreOf}
+use Rattle.scorer.specs.declared.Work.{Work}
+use Rattle.scorer.specs.declared.Work.the-variants as Work
+use Rattle.scorer.proofs.Outcomes.{answer-unique, outcome, kept-same, listed-same, room-same, set-unique}
+use Rattle.scorer.proofs.RuleParts.{label-parts, work-parts}
 
 -- two labellings from a start have the same root
 root-unique : (P : Column) (start : Start) (l m : ℕ → ℕ) → StartLabels P start l → StartLabels P start m
@@ -53,3 +61,41 @@ label-outcome I j start states rows a b s1 r1 s2 r2 f g =
     let tree = rules-sound I (parts .table) j (parts .which .0) .tree in
     let same = label-unique (column I j) tree start (λ x. getD s1 x 0) (λ x. getD s2 x 0) (u .labels) (v .labels) in
     (kept-same (u .kept) (v .kept) (λ x h. same x (omega arith)), room-same (u .worked) (v .worked)))
+
+-- the whole work on a column can be written in one way only
+pub work-unique : (I : Input) → All (tableRules I []) → (j : ℕ) → j < I .c → (states sets rows : List ℕ) (k m : ℕ)
+    (l1 s1 r1 l2 s2 r2 : List ℕ) → WorkWritten I j states sets rows k l1 s1 r1
+    → WorkWritten I j states sets rows m l2 s2 r2 → (k ≡ m) × (l1 ≡ l2) × (s1 ≡ s2) × (r1 ≡ r2)
+unfolding columnOf
+work-unique I rules j inside states sets rows k m l1 s1 r1 l2 s2 r2 u v =
+    let tree = rules-sound I rules j inside .tree in
+    let same =
+    label-unique (column I j) tree Free (λ x. getD l1 x 0) (λ x. getD l2 x 0) (u .labels) (v .labels) in (
+      score-unique (column I j) k m (u .score) (v .score),
+      kept-same (u .kept) (v .kept) (λ x h. same x (omega arith)),
+      listed-same (u .each) (v .each) (λ x w z h. set-unique (column I j) Free x w z),
+      room-same (u .worked) (v .worked),
+    )
+
+-- no second outcome of the whole work on a column
+pub work-outcome : (I : Input) (j : ℕ) (states sets rows : List ℕ) (a b : Work) (l1 s1 r1 l2 s2 r2 : List ℕ)
+    → ColumnWorked I j states sets rows a l1 s1 r1 → ColumnWorked I j states sets rows b l2 s2 r2
+    → (a ≡ b) × (l1 ≡ l2) × (s1 ≡ s2) × (r1 ≡ r2)
+work-outcome I j states sets rows a b l1 s1 r1 l2 s2 r2 f g =
+    let same = answer-unique _ (I .left) (I .right) (workAnswer a) (workAnswer b) (f .answer) (g .answer) in
+    both a b same (f .answer .given) (f .lists) (g .lists)
+  where
+    both : (a b : Work) → workAnswer a ≡ workAnswer b
+        → GivenFor (workRules I j (length states) (length sets) (length rows)) (I .left) (I .right) (workAnswer a)
+        → LeftBy (workAnswer a) ((l1 ≡ states) × (s1 ≡ sets) × (r1 ≡ rows))
+        (WorkWritten I j states sets rows (scoreOf a) l1 s1 r1)
+        → LeftBy (workAnswer b) ((l2 ≡ states) × (s2 ≡ sets) × (r2 ≡ rows))
+        (WorkWritten I j states sets rows (scoreOf b) l2 s2 r2) → (a ≡ b) × (l1 ≡ l2) × (s1 ≡ s2) × (r1 ≡ r2)
+    both (Work.Done k) (Work.Done m) e all u v =
+        let parts = work-parts I j (length states) (length sets) (length rows) all in
+        let same = work-unique I (parts .table) j (parts .which) states sets rows k m l1 s1 r1 l2 s2 r2 u v in
+        (ap Work.Done (same .0), same .1, same .2, same .3)
+    both (Work.Done k) (Work.Refused r) e all u v = absurd (let z : _≡_ {A = ℕ} 0 1 = cc in omega arith)
+    both (Work.Refused r) (Work.Done k) e all u v = absurd (let z : _≡_ {A = ℕ} 0 1 = cc in omega arith)
+    both (Work.Refused r) (Work.Refused q) e all u v =
+        (ap Work.Refused (cc), u .0 ∙ sym (v .0), u .1 ∙ sym (v .1), u .2 ∙ sym (v .2))

@@ -2,10 +2,11 @@
 -- Assumes nothing.
 use mathlib.Core.List.{List, []}
 use mathlib.Core.Path.{_≡_, ap, ap₂}
-use Prim.Native.Nat.{ℕ, _+_, _*_, _-_, _<_}
+use Prim.Native.Nat.{ℕ, _+_, _*_, _-_, _≤_, _<_}
+use native.Mathlib.Nat.{le-refl}
 use native.Mathlib.Omega.{arith}
 use lib.Dec.{eqb}
-use lib.ListN.{getD}
+use lib.ListN.{length, getD}
 use Rattle.parsimony.specs.Barred.{plus}
 use Rattle.parsimony.specs.Column.{columnOf, costAt}
 use Rattle.parsimony.specs.Label.{choose, freeStart}
@@ -22,8 +23,9 @@ use Rattle.answers.specs.Rules.{All}
 use Rattle.answers.proofs.RootLaws.{rules-legal, rules-node}
 use Rattle.descents.specs.Down.{chosen, settled}
 use Rattle.columns.specs.Ready.{Ready}
+use Rattle.columns.proofs.RowSteps.{ready-calm}
 use Rattle.columns.specs.RowRoom.{Holds}
-use Rattle.steps.specs.Lane.{entryAt, lane, joined, leastSet}
+use Rattle.steps.specs.Lane.{entryAt, lane, Calm, joined, leastSet}
 
 -- a table that has passed the tests is ready to be worked
 pub rules-ready : (I : Input) → All (tableRules I []) → (j : ℕ) → j < I .c
@@ -40,6 +42,13 @@ rules-ready I rules j inside =
 -- a table that has passed the tests has a state
 pub rules-state : (I : Input) → All (tableRules I []) → 0 < I .s
 rules-state I rules = let f = rules .1 .1 .0 .fewest in omega arith
+
+-- the rows of its columns are calm
+pub rules-calm : (I : Input) → All (tableRules I []) → (j : ℕ) → j < I .c → (rows : List ℕ)
+    → nodes I * I .s ≤ length rows → Holds (row (column I j)) (nodes I) (I .s) rows
+    → (v : ℕ) → v < nodes I → Calm rows (v * I .s) (I .s)
+rules-calm I rules j inside rows room held =
+    ready-calm (rules-ready I rules j inside) (nodes I) rows (le-refl (nodes I)) room held
 
 module _ (I : Input) (rules : All (tableRules I [])) (j : ℕ) (inside : j < I .c) (rows : List ℕ)
     (held : Holds (row (column I j)) (nodes I) (I .s) rows) where

@@ -5,7 +5,16 @@ use mathlib.Core.Path.{_≡_, ap}
 use Prim.Native.Nat.{ℕ, suc, _+_, _*_, _-_, _≤_, _<_}
 use native.Mathlib.Nat.{suc-mul}
 use native.Mathlib.Omega.{arith}
-use Rattle.answers.specs.CallRules.{tableRules, scoreRules, labelRules, setsRules, handUpRules, Fits, Untested}
+use Rattle.answers.specs.CallRules.{
+  tableRules,
+  scoreRules,
+  labelRules,
+  setsRules,
+  handUpRules,
+  workRules,
+  Fits,
+  Untested,
+}
 use Rattle.answers.specs.Input.{Input, nodes}
 use Rattle.answers.specs.Rules.{All}
 use Rattle.answers.specs.Starts.{StateStart, SetStart}
@@ -39,6 +48,10 @@ sets-parts I j start a b = parts-of I ((j < I .c) × SetStart I j start) (Fits I
 
 pub hand-up-parts : (I : Input) (j a b : ℕ) → All (handUpRules I j a b) → Parts I (j < I .c) (Fits I (I .s) a b)
 hand-up-parts I j a b = parts-of I (j < I .c) (Fits I (I .s) a b)
+
+pub work-parts : (I : Input) (j a b d : ℕ) → All (workRules I j a b d)
+    → Parts I (j < I .c) ((nodes I ≤ a) × Fits I (nodes I) b d)
+work-parts I j a b d = parts-of I (j < I .c) ((nodes I ≤ a) × Fits I (nodes I) b d)
 
 -- the root's row lies in the row room, and so does a row at a place before it
 pub root-inside : (n s len at : ℕ) → 0 < n → n * s ≤ len → at ≤ (n - 1) * s → at + s ≤ len

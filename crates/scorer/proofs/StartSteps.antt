@@ -21,13 +21,21 @@ use Rattle.steps.specs.Lane.{entryAt, leastSet}
 use Rattle.scorer.specs.Results.{IsLabelling, IsSet}
 use Rattle.scorer.specs.Starts.{stateOf}
 use Rattle.scorer.proofs.LinkLaws.{rules-state, start-is, start-set-is}
-use Rattle.scorer.proofs.ResultLaws.{label-free, label-given, set-free, set-given}
+use Rattle.scorer.proofs.Meaning.{labelling-same, labelling-of, start-within, set-of}
+use Rattle.scorer.proofs.ResultLaws.{Chosen, Settled, labels-are, sets-are}
+use Rattle.answers.proofs.RootLaws.{rules-sound}
+use Rattle.parsimony.specs.Column.{columnOf}
+use mathlib.Core.Path.{ap, sym, subst}
 
-module _ (I : Input) (rules : All (tableRules I [])) (j : ℕ) (inside : j < I .c) (rows : List ℕ) where
-  -- the root's state is a state
-  pub start-state : (start : Start) → StateStart I j start
-      → stateOf start (low (entryAt rows ((nodes I - 1) * I .s)) (I .s)) < I .s
-  start-state Free fits = low-within _ (I .s) (rules-state I rules)
+-- the root's state is a state where the one given and the free one are
+pub start-small : (start : Start) (x s : ℕ) → x < s → stateOf start 0 < s → stateOf start x < s
+start-small Free x s free given = free
+start-small (Given y) x s free given = given
+
+module _ (I : Input) (rules : All (tableRules I [])) (j : ℕ) (inside : j < I .c) where
+  -- a start state is a state
+  pub start-state : (start : Start) → StateStart I j start → stateOf start 0 < I .s
+  start-state Free fits = rules-state I rules
   start-state (Given x) fits = fits .0
 
   -- a start set is a 16-bit number
@@ -37,21 +45,28 @@ module _ (I : Input) (rules : All (tableRules I [])) (j : ℕ) (inside : j < I .
       let wide : 2 ^ I .s ≤ 2 ^ 16 = pow-mono (rules .1 .1 .0 .most) in
       omega (arith, fits .1)
 
-  module _ (held : Holds (row (column I j)) (nodes I) (I .s) rows) where
+  module _ (rows : List ℕ) (held : Holds (row (column I j)) (nodes I) (I .s) rows) where
     -- the states written down from the root's are the labelling from the start
     pub labels-right : (start : Start) (l : ℕ → ℕ) → StateStart I j start
         → Descent (nodes I - 1) (kidsAt (I .left) (I .right)) (chosen (I .s) (I .costs) rows)
         (stateOf start (low (entryAt rows ((nodes I - 1) * I .s)) (I .s))) l
         → IsLabelling (column I j) start l
-    labels-right Free l fits down =
-        label-free I rules j inside rows held _ l (start-is I rules j inside rows held) down
-    labels-right (Given x) l fits down = label-given I rules j inside rows held x l (fits .0) (fits .1) down
+    unfolding columnOf
+    labels-right start l fits down =
+        let free = start-is I rules j inside rows held in
+        let here = subst (λ x. Chosen I rules j inside rows held x l) (ap (stateOf start) free) down in
+        labelling-same (column I j) (rules-sound I rules j inside .tree) start l _
+        (labels-are I rules j inside rows held _ l here) (labelling-of I rules j inside start fits)
 
     -- the sets written down from the root's are the sets from the start
     pub sets-right : (start : Start) (S : ℕ → ℕ) → SetStart I j start
         → Descent (nodes I - 1) (kidsAt (I .left) (I .right)) (settled (I .s) (I .costs) rows)
         (stateOf start (leastSet rows ((nodes I - 1) * I .s) (I .s) (I .s))) S
         → (v : ℕ) → v < nodes I → IsSet (column I j) start v (S v)
-    sets-right Free S fits down v h =
-        set-free I rules j inside rows held _ S (start-set-is I rules j inside rows held) down v h
-    sets-right (Given w) S fits down v h = set-given I rules j inside rows held w S (fits .1) (fits .2) down v h
+    unfolding columnOf
+    sets-right start S fits down v h =
+        let free = start-set-is I rules j inside rows held in
+        let here = subst (λ w. Settled I rules j inside rows held w S) (ap (stateOf start) free) down in
+        let within = start-within I rules j inside start fits in
+        let same = sets-are I rules j inside rows held _ S within here v (omega arith) in
+        subst (IsSet (column I j) start v) (sym same) (set-of I rules j inside start fits v h)

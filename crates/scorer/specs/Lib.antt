@@ -1,7 +1,8 @@
--- What the five table calls promise.
+-- What the table calls promise.
 -- Assumes nothing.
 pub mod Lent
 pub mod Starts
 pub mod Counts
+pub mod Works
 pub mod Results
 pub mod Promises

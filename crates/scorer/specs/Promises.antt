@@ -1,4 +1,4 @@
--- The promises of the five table calls: the answer, and every entry of every list lent.
+-- The promises of the table calls: the answer, and every entry of every list lent.
 -- Assumes nothing.
 use mathlib.Core.List.{List}
 use mathlib.Core.Path.{_≡_}
@@ -8,15 +8,18 @@ use Rattle.parsimony.specs.Counting.{countedAt}
 use Rattle.parsimony.specs.Labelling.{IsScore}
 use Rattle.parsimony.specs.Row.{row}
 use Rattle.answers.specs.Answers.{Given}
-use Rattle.answers.specs.CallRules.{scoreRules, labelRules, setsRules, handUpRules, countRules}
+use Rattle.answers.specs.CallRules.{scoreRules, labelRules, setsRules, handUpRules, workRules, countRules}
 use Rattle.answers.specs.Input.{Input, nodes, column}
 use Rattle.answers.specs.declared.Answer.{Answer}
 use Rattle.answers.specs.declared.Start.{Start}
+use Rattle.answers.specs.declared.Start.the-variants.{Free}
 use Rattle.columns.specs.RowRoom.{RowRoom}
 use Rattle.scorer.specs.Counts.{answerOf, changesOf}
 use Rattle.scorer.specs.Lent.{Kept, Listed, LeftBy}
 use Rattle.scorer.specs.Results.{IsLabelling, IsSet, IsEntry}
+use Rattle.scorer.specs.Works.{workAnswer, scoreOf}
 use Rattle.scorer.specs.declared.Counted.{Counted}
+use Rattle.scorer.specs.declared.Work.{Work}
 
 -- the row room after work on column j: the rows of column j, and all beyond as before
 abbrev pub Worked : Input → ℕ → List ℕ → List ℕ → Type 0
@@ -65,6 +68,22 @@ pub record RowWritten (I : Input) (j : ℕ) (row rows row' rows' : List ℕ) : T
 pub record HandedUp (I : Input) (j : ℕ) (row rows : List ℕ) (a : Answer) (row' rows' : List ℕ) : Type 0 where
   pub answer : Given (handUpRules I j (length row) (length rows)) (I .left) (I .right) a
   pub lists : LeftBy a ((row' ≡ row) × (rows' ≡ rows)) (RowWritten I j row rows row' rows')
+
+-- what the whole work on column j has written and answered: n states and n sets, from no start, the rows, the score
+pub record WorkWritten (I : Input) (j : ℕ) (states sets rows : List ℕ) (k : ℕ) (states' sets' rows' : List ℕ)
+    : Type 0 where
+  pub score : IsScore (column I j) k
+  pub labels : IsLabelling (column I j) Free (λ v. getD states' v 0)
+  pub kept : Kept (nodes I) states states'
+  pub each : Listed (nodes I) (IsSet (column I j) Free) sets sets'
+  pub worked : Worked I j rows rows'
+
+-- the whole work on column j
+pub record ColumnWorked (I : Input) (j : ℕ) (states sets rows : List ℕ) (a : Work) (states' sets' rows' : List ℕ)
+    : Type 0 where
+  pub answer : Given (workRules I j (length states) (length sets) (length rows)) (I .left) (I .right) (workAnswer a)
+  pub lists : LeftBy (workAnswer a) ((states' ≡ states) × (sets' ≡ sets) × (rows' ≡ rows))
+      (WorkWritten I j states sets rows (scoreOf a) states' sets' rows')
 
 -- what set counting has written and answered: n preliminary sets, and the change count, which is the column's score
 pub record CountWritten (I : Input) (j : ℕ) (sets sets' : List ℕ) (changes : ℕ) : Type 0 where

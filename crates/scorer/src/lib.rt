@@ -1,15 +1,17 @@
-// The five table calls: scoring, labelling, the set call, handing up and counting by sets.
+// The table calls: scoring, labelling, the set call, handing up, the whole work on a column, and counting by sets.
 ghost use mathlib.Core.Path.{_≡_};
 ghost use mathlib.Core.List.{[]};
 ghost use Prim.Native.Nat.{ℕ, _+_, _*_, _-_, _<_, _≤_};
 ghost use lib.ListN.{length, getD};
 ghost use Rattle.parsimony.specs.Labelling.{IsScore};
-ghost use Rattle.parsimony.specs.Table.{Kind};
-ghost use Rattle.answers.specs.CallRules.{scoreRules, labelRules, setsRules, handUpRules};
+ghost use Rattle.parsimony.specs.Allowed.{CostRules};
+ghost use Rattle.parsimony.specs.Table.{Kind, Legal, kidsAt};
+ghost use Rattle.answers.specs.CallRules.{tableRules, scoreRules, labelRules, setsRules, handUpRules, workRules};
 ghost use Rattle.answers.specs.Input.{input, tipsIn, nodes, column};
 ghost use Rattle.answers.specs.Rules.{All};
-ghost use Rattle.parsimony.specs.Least.{low};
-ghost use Rattle.steps.specs.Lane.{entryAt, leastSet};
+ghost use Rattle.parsimony.specs.Least.{low, least};
+ghost use Rattle.steps.specs.Lane.{Calm, entryAt, leastSet};
+ghost use Rattle.descents.specs.Down.{chosen, settled, Descended};
 ghost use Rattle.scorer.specs.Starts.{stateOf};
 ghost use Rattle.scorer.specs.Promises.{
   Worked,
@@ -21,6 +23,8 @@ ghost use Rattle.scorer.specs.Promises.{
   SetsFound,
   RowWritten,
   HandedUp,
+  WorkWritten,
+  ColumnWorked,
   CountedBySets,
 };
 use answers::Answer;
@@ -31,6 +35,7 @@ use answers::calls::hand_up_tests;
 use answers::calls::label_tests;
 use answers::calls::score_tests;
 use answers::calls::sets_tests;
+use answers::calls::work_tests;
 use answers::starts::narrow;
 use columns::count::fill_prelims;
 use columns::up::fill_rows;
@@ -48,12 +53,27 @@ pub enum Counted {
     Refused(Refusal),
 }
 
+// The answer of the whole work on a column: its score, or a refusal.
+pub enum Work {
+    Done(u32),
+    Refused(Refusal),
+}
+
 // Where the root's row starts in the row room.
 fn root_place(n: usize, s: usize) -> usize
     requires { ⌜ (0 < n) × (n ≤ 1023) × (s ≤ 16) ⌝ }
     ensures { λ r. ⌜ r ≡ (n - 1) * s ⌝ }
 {
     (n - 1) * s
+}
+
+// The least entry of the root's row.
+fn root_least(rows: &[u32], n: usize, s: usize) -> u32
+    requires { ⌜ (0 < n) × (n ≤ 1023) × (s ≤ 16) ⌝ }
+    requires { ⌜ (n * s ≤ length (now rows)) × (0 < s) ⌝ }
+    ensures { λ r. ⌜ r ≡ least (entryAt (now (rows .entry)) ((n - 1) * s)) s ⌝ }
+{
+    least_entry(rows, root_place(n, s), s)
 }
 
 // The score of column j, where h is the number of handed tips; its rows are left in the row room.
@@ -80,7 +100,7 @@ fn score_column(
         (now (handed .entry))) j (now (rows .entry)) (now (rows .exit)) ⌝ }
 {
     fill_rows(left, right, s, costs, c, cells, h, handed, j, rows);
-    least_entry(rows, root_place(left.len(), s), s)
+    root_least(rows, left.len(), s)
 }
 
 // The scores of all columns.
@@ -143,6 +163,28 @@ pub fn score(
     Answer::Done
 }
 
+// The rows of column j.
+fn work_rows(
+    left: &[u16],
+    right: &[u16],
+    s: usize,
+    costs: &[u16],
+    c: usize,
+    cells: &[u16],
+    handed: &[u32],
+    j: usize,
+    rows: &mut [u32],
+)
+    requires { ⌜ All (tableRules (input (now left) (now right) s (now costs) c (now cells) (now handed)) []) ⌝ }
+    requires { ⌜ (j < c) × (length (now left) * s ≤ length (now rows)) ⌝ }
+    ensures { λ r. ⌜ Worked
+        (input (now (left .entry)) (now (right .entry)) s (now (costs .entry)) c (now (cells .entry))
+        (now (handed .entry))) j (now (rows .entry)) (now (rows .exit)) ⌝ }
+{
+    let h = tips_of(left, right, true);
+    fill_rows(left, right, s, costs, c, cells, h, handed, j, rows);
+}
+
 // The root's state: the one given, or the lowest at which its row is least.
 fn root_state(rows: &[u32], at: usize, s: usize, start: Start) -> usize
     requires { ⌜ (at + s ≤ length (now rows)) × (0 < s) ⌝ }
@@ -152,6 +194,29 @@ fn root_state(rows: &[u32], at: usize, s: usize, start: Start) -> usize
         Start::Free => lowest_least(rows, at, s),
         Start::Given(x) => x,
     }
+}
+
+// The states of all nodes from the root's down, read off the rows.
+fn states_down(
+    left: &[u16],
+    right: &[u16],
+    s: usize,
+    costs: &[u16],
+    rows: &[u32],
+    start: Start,
+    states: &mut [u8],
+)
+    requires { ⌜ Legal (now left) (now right) ⌝ }
+    requires { ⌜ CostRules s (now costs) ⌝ }
+    requires { ⌜ ((v : ℕ) → v < length (now left) → Calm (now rows) (v * s) s) ⌝ }
+    requires { ⌜ (stateOf start 0 < s) × (length (now left) ≤ length (now states)) ⌝ }
+    ensures { λ r. ⌜ Descended (length (now (left .entry))) (kidsAt (now (left .entry)) (now (right .entry)))
+        (chosen s (now (costs .entry)) (now (rows .entry)))
+        (stateOf start (low (entryAt (now (rows .entry)) ((length (now (left .entry)) - 1) * s)) s))
+        (now (states .entry)) (now (states .exit)) ⌝ }
+{
+    let x = root_state(rows, root_place(left.len(), s), s, start);
+    fill_states(left, right, s, costs, rows, x, states);
 }
 
 // The labels of column j, from the root down.
@@ -175,10 +240,8 @@ fn label_column(
         (now (handed .entry))) j start (now (states .entry)) (now (rows .entry))
         (now (states .exit)) (now (rows .exit)) ⌝ }
 {
-    let h = tips_of(left, right, true);
-    fill_rows(left, right, s, costs, c, cells, h, handed, j, rows);
-    let x = root_state(rows, root_place(left.len(), s), s, start);
-    fill_states(left, right, s, costs, rows, x, states);
+    work_rows(left, right, s, costs, c, cells, handed, j, rows);
+    states_down(left, right, s, costs, rows, start, states);
 }
 
 // Labelling: the state of each node in one column, from a start.
@@ -244,6 +307,29 @@ fn root_set(rows: &[u32], at: usize, s: usize, start: Start) -> u16
     }
 }
 
+// The sets of all nodes from the root's down, read off the rows.
+fn sets_down(
+    left: &[u16],
+    right: &[u16],
+    s: usize,
+    costs: &[u16],
+    rows: &[u32],
+    start: Start,
+    sets: &mut [u16],
+)
+    requires { ⌜ Legal (now left) (now right) ⌝ }
+    requires { ⌜ CostRules s (now costs) ⌝ }
+    requires { ⌜ ((v : ℕ) → v < length (now left) → Calm (now rows) (v * s) s) ⌝ }
+    requires { ⌜ (stateOf start 0 < 65536) × (length (now left) ≤ length (now sets)) ⌝ }
+    ensures { λ r. ⌜ Descended (length (now (left .entry))) (kidsAt (now (left .entry)) (now (right .entry)))
+        (settled s (now (costs .entry)) (now (rows .entry)))
+        (stateOf start (leastSet (now (rows .entry)) ((length (now (left .entry)) - 1) * s) s s))
+        (now (sets .entry)) (now (sets .exit)) ⌝ }
+{
+    let set = root_set(rows, root_place(left.len(), s), s, start);
+    fill_sets(left, right, s, costs, rows, set, sets);
+}
+
 // The sets of column j, from the root down.
 fn set_column(
     left: &[u16],
@@ -264,10 +350,8 @@ fn set_column(
         (input (now (left .entry)) (now (right .entry)) s (now (costs .entry)) c (now (cells .entry))
         (now (handed .entry))) j start (now (sets .entry)) (now (rows .entry)) (now (sets .exit)) (now (rows .exit)) ⌝ }
 {
-    let h = tips_of(left, right, true);
-    fill_rows(left, right, s, costs, c, cells, h, handed, j, rows);
-    let set = root_set(rows, root_place(left.len(), s), s, start);
-    fill_sets(left, right, s, costs, rows, set, sets);
+    work_rows(left, right, s, costs, c, cells, handed, j, rows);
+    sets_down(left, right, s, costs, rows, start, sets);
 }
 
 // The set call: the set of each node in one column, from a start set.
@@ -340,8 +424,7 @@ fn row_column(
         (input (now (left .entry)) (now (right .entry)) s (now (costs .entry)) c (now (cells .entry))
         (now (handed .entry))) j (now (row .entry)) (now (rows .entry)) (now (row .exit)) (now (rows .exit)) ⌝ }
 {
-    let h = tips_of(left, right, true);
-    fill_rows(left, right, s, costs, c, cells, h, handed, j, rows);
+    work_rows(left, right, s, costs, c, cells, handed, j, rows);
     copy_row(rows, root_place(left.len(), s), row, 0, s);
 }
 
@@ -379,6 +462,83 @@ pub fn hand_up(
     }
     row_column(left, right, s, costs, c, cells, handed, j, row, rows);
     Answer::Done
+}
+
+// The rows, the labels and the sets of column j, and its score.
+fn fill_column(
+    left: &[u16],
+    right: &[u16],
+    s: usize,
+    costs: &[u16],
+    c: usize,
+    cells: &[u16],
+    handed: &[u32],
+    j: usize,
+    states: &mut [u8],
+    sets: &mut [u16],
+    rows: &mut [u32],
+) -> u32
+    requires { ⌜ All (workRules (input (now left) (now right) s (now costs) c (now cells) (now handed)) j
+        (length (now states)) (length (now sets)) (length (now rows))) ⌝ }
+    ensures { λ r. ⌜ WorkWritten
+        (input (now (left .entry)) (now (right .entry)) s (now (costs .entry)) c (now (cells .entry))
+        (now (handed .entry))) j (now (states .entry)) (now (sets .entry)) (now (rows .entry)) r
+        (now (states .exit)) (now (sets .exit)) (now (rows .exit)) ⌝ }
+{
+    work_rows(left, right, s, costs, c, cells, handed, j, rows);
+    states_down(left, right, s, costs, rows, Start::Free, states);
+    sets_down(left, right, s, costs, rows, Start::Free, sets);
+    root_least(rows, left.len(), s)
+}
+
+// The whole work on one column: the score, and the state and the set of each node, from no start.
+pub fn work_column(
+    left: &[u16],
+    right: &[u16],
+    s: usize,
+    costs: &[u16],
+    c: usize,
+    cells: &[u16],
+    handed: &[u32],
+    j: usize,
+    states: &mut [u8],
+    sets: &mut [u16],
+    rows: &mut [u32],
+) -> Work
+    ensures { λ r. ⌜ ColumnWorked
+        (input (now (left .entry)) (now (right .entry)) s (now (costs .entry)) c (now (cells .entry))
+        (now (handed .entry))) j (now (states .entry)) (now (sets .entry)) (now (rows .entry)) r
+        (now (states .exit)) (now (sets .exit)) (now (rows .exit)) ⌝ }
+{
+    let answer = work_tests(
+        left,
+        right,
+        s,
+        costs,
+        c,
+        cells,
+        handed,
+        j,
+        states.len(),
+        sets.len(),
+        rows.len(),
+    );
+    if let Answer::Refused(r) = answer {
+        return Work::Refused(r);
+    }
+    Work::Done(fill_column(
+        left,
+        right,
+        s,
+        costs,
+        c,
+        cells,
+        handed,
+        j,
+        states,
+        sets,
+        rows,
+    ))
 }
 
 // Counting by sets: the preliminary set of each node in one column, and the number of changes.

@@ -1,11 +1,12 @@
--- `row_column` meets its contract: the rows are the column's, and the root's is copied out.
+-- `row_column` meets its contract: the rows are the column's, and the root's is copied.
 -- Assumes nothing.
 use mathlib.Core.Path.{subst}
+use Prim.Native.Nat.{_*_, _≤_}
 use native.Mathlib.Omega.{arith}
+use borrow.Author.Needs.{needs}
 use lib.ListN.{length}
 use Rattle.answers.proofs.RootLaws.{rules-node}
 use Rattle.answers.specs.Input.{Input, input, nodes}
-use Rattle.scorer.proofs.LinkLaws.{rules-ready}
 use Rattle.scorer.proofs.ResultLaws.{row-right}
 use Rattle.scorer.proofs.RuleParts.{hand-up-parts, root-inside}
 use Rattle.scorer.proofs.row_column.Statement.{statement}
@@ -19,81 +20,68 @@ table c =
     input (c .args .left .now) (c .args .right .now) (c .args .s) (c .args .costs .now) (c .args .c)
     (c .args .cells .now) (c .args .handed .now)
 
-tips-of-requires : tie.Need-tips-of-requires
-tips-of-requires c κs = c .before .before .before .before .before .before .before .pre .0
-
-fill-rows-requires : tie.Need-fill-rows-requires
-fill-rows-requires c κs =
-    let start = c .before .before .before .before .before .before .before .before .before in
-    let I = table start in
-    let parts =
-    hand-up-parts I (start .args .j) (length (start .args .row .now)) (length (start .args .rows .now))
-    (start .pre) in
-    let t = parts .table in
-    (rules-ready I t (start .args .j) (parts .which), (c .before .tips-of .ensures, parts .room .1))
+work-rows-requires : tie.Need-work-rows-requires
+work-rows-requires c κs =
+    let call = c .before .before .before .before .before .before .before .before in
+    let I = table call in
+    let j = call .args .j in
+    let parts = hand-up-parts I j (length (call .args .row .now)) (length (call .args .rows .now)) (call .pre) in
+    (parts .table, (parts .which, parts .room .1))
 
 root-place-requires : tie.Need-root-place-requires
 root-place-requires c κs =
     let far = c .before .before .before .before .before .before .before .before in
-    let start = far .before .before .before .before .before in
-    let I = table start in
-    let parts =
-    hand-up-parts I (start .args .j) (length (start .args .row .now)) (length (start .args .rows .now))
-    (start .pre) in
-    let t = parts .table in (omega (arith, rules-node I t), omega (arith, t .0 .most), t .1 .1 .0 .most)
+    let call = far .before .before .before .before in
+    let I = table call in
+    let j = call .args .j in
+    let parts = hand-up-parts I j (length (call .args .row .now)) (length (call .args .rows .now)) (call .pre) in
+    (omega (arith, rules-node I (parts .table)), omega (arith, parts .table .0 .most), parts .table .1 .1 .0 .most)
 
 copy-row-requires : tie.Need-copy-row-requires
 copy-row-requires c κs =
-    let fill-rows = c .before .before .before .before .before .fill-rows in
     let far = c .before .before .before .before .before .before .before .before in
-    let start = far .before .before .before .before .before .before .before in
-    let fill-rows-out = fill-rows .last .1 .1 .1 .1 .1 .1 .1 .1 .1 .0 in
-    let I = table start in
-    let parts =
-    hand-up-parts I (start .args .j) (length (start .args .row .now)) (length (start .args .rows .now))
-    (start .pre) in
-    let t = parts .table in
-    let long = fill-rows .ensures .long in
-    let room = parts .room .1 in
-    let output = parts .room .0 in (
-      root-inside (nodes I) (I .s) (length fill-rows-out) _ (rules-node I t) (omega arith)
+    let work-rows = c .before .before .before .before .before .work-rows in
+    let call = far .before .before .before .before .before .before in
+    let I = table call in
+    let j = call .args .j in
+    let parts = hand-up-parts I j (length (call .args .row .now)) (length (call .args .rows .now)) (call .pre) in
+    let rows = work-rows .last .1 .1 .1 .1 .1 .1 .1 .1 .0 in
+    let room : nodes I * I .s ≤ length rows = omega (arith, work-rows .ensures .long, parts .room .1) in (
+      root-inside (nodes I) (I .s) (length rows) _ (rules-node I (parts .table)) room
           (omega (arith, c .before .root-place .ensures)),
-      omega arith,
+      omega (arith, parts .room .0),
     )
 
 same-length : tie.Need-same-length
-same-length c = c .before .before .copy-row .ensures .long
+same-length c = search needs
 
 same-length-2 : tie.Need-same-length-2
-same-length-2 c = c .before .before .before .before .before .before .before .before .fill-rows .ensures .long
+same-length-2 c = search needs
 
 returns : tie.Need-returns
 returns c =
+    let far = c .before .before .before .before .before .before .before .before in
     let copy-row = c .before .before .copy-row in
     let root-place = c .before .before .before .before .root-place in
-    let fill-rows = c .before .before .before .before .before .before .before .before .fill-rows in
-    let far = c .before .before .before .before .before .before .before .before in
-    let start = far .before .before .before .before .before .before .before .before .before .before in
-    let fill-rows-out = fill-rows .last .1 .1 .1 .1 .1 .1 .1 .1 .1 .0 in
-    let I = table start in
-    let parts =
-    hand-up-parts I (start .args .j) (length (start .args .row .now)) (length (start .args .rows .now))
-    (start .pre) in
-    let t = parts .table in
-    let written = copy-row .ensures in
+    let work-rows = far .work-rows in
+    let call = far .before .before .before .before .before .before .before .before .before in
+    let I = table call in
+    let j = call .args .j in
+    let parts = hand-up-parts I j (length (call .args .row .now)) (length (call .args .rows .now)) (call .pre) in
+    let rows = work-rows .last .1 .1 .1 .1 .1 .1 .1 .1 .0 in
+    let held = work-rows .ensures .holds in
     record {
-      each = row-right I t (start .args .j) (parts .which) fill-rows-out (fill-rows .ensures .holds) _ _
-          (subst (λ at. Wrote 0 (I .s) (entryAt fill-rows-out at) (start .args .row .now) (copy-row .last .1 .1 .0))
-          (root-place .ensures) written);
-      worked = fill-rows .ensures;
+      each = row-right I (parts .table) j (parts .which) rows held _ _
+          (subst (λ at. Wrote 0 (I .s) (entryAt rows at) (call .args .row .now) (copy-row .last .1 .1 .0))
+          (root-place .ensures) (copy-row .ensures));
+      worked = work-rows .ensures;
     }
 
 pub row-column-spec : {M : Type 1} → statement M
 row-column-spec =
     tie.close
     (tie.spec
-    tips-of-requires
-    fill-rows-requires
+    work-rows-requires
     root-place-requires
     copy-row-requires
     same-length

@@ -1,0 +1,61 @@
+-- The report of the paper, and columns that are not quiet, by computation.
+-- Assumes nothing.
+use mathlib.Core.List.{List, [], _∷_}
+use mathlib.Core.Path.{_≡_, refl}
+use Prim.Native.Nat.{ℕ}
+use Rattle.answers.specs.Input.{Input, input}
+use Rattle.lines.specs.Bytes.{bytes}
+use Rattle.reports.specs.Frame.{columnsLine, totalLine, refusedLine}
+use Rattle.reports.specs.Line.{lineOf}
+use Rattle.reports.specs.Quiet.{quietMark}
+
+-- unit costs of four states
+abbrev unit : List ℕ
+unit = 0 ∷ 1 ∷ 1 ∷ 1 ∷ 1 ∷ 0 ∷ 1 ∷ 1 ∷ 1 ∷ 1 ∷ 0 ∷ 1 ∷ 1 ∷ 1 ∷ 1 ∷ 0 ∷ []
+
+-- the tree ((a,b),c); with these three cells
+abbrev three : List ℕ → Input
+three cells = input (65535 ∷ 65535 ∷ 0 ∷ 65535 ∷ 2 ∷ []) (0 ∷ 1 ∷ 1 ∷ 2 ∷ 3 ∷ []) 4 unit 1 cells []
+
+-- A, A, G
+pub report-0 : lineOf (three (1 ∷ 1 ∷ 4 ∷ [])) 0 ≡ bytes "0 1 1 4 AAAGA"
+unfolding lineOf bytes
+report-0 = refl
+
+-- C, T, T
+pub report-1 : lineOf (three (2 ∷ 8 ∷ 8 ∷ [])) 1 ≡ bytes "1 1 1 5 CTTTT"
+unfolding lineOf bytes
+report-1 = refl
+
+-- ((a,b),(c,d)); with A, A, G, G: two bases occur at two tips each
+pub report-loud : lineOf (input (65535 ∷ 65535 ∷ 0 ∷ 65535 ∷ 65535 ∷ 3 ∷ 2 ∷ []) (0 ∷ 1 ∷ 1 ∷ 2 ∷ 3 ∷ 4 ∷ 5 ∷ []) 4 unit
+    1 (1 ∷ 1 ∷ 4 ∷ 4 ∷ []) []) 12 ≡ bytes "12 1 0 6 AAAGGGA"
+unfolding lineOf bytes
+report-loud = refl
+
+-- C, C, T, Y: what Y stands for counts for no base
+pub quiet-codes : quietMark (2 ∷ 2 ∷ 8 ∷ 10 ∷ []) ≡ 1
+unfolding quietMark
+quiet-codes = refl
+
+-- C, C, T, T
+pub quiet-no : quietMark (2 ∷ 8 ∷ 2 ∷ 8 ∷ []) ≡ 0
+unfolding quietMark
+quiet-no = refl
+
+-- one base at every tip
+pub quiet-one-base : quietMark (8 ∷ 8 ∷ 8 ∷ 8 ∷ []) ≡ 1
+unfolding quietMark
+quiet-one-base = refl
+
+pub columns-2 : columnsLine 2 ≡ bytes "columns 2"
+unfolding columnsLine bytes
+columns-2 = refl
+
+pub total-2 : totalLine 2 ≡ bytes "total 2"
+unfolding totalLine bytes
+total-2 = refl
+
+pub refused-10-7 : refusedLine 10 7 ≡ bytes "refused 10 7"
+unfolding refusedLine bytes
+refused-10-7 = refl

@@ -1,0 +1,8 @@
+-- Laws of the report's lines.
+-- Assumes nothing.
+pub mod LineLaws
+pub mod LineSteps
+pub mod QuietSteps
+pub mod ReportLaws
+pub mod Outcomes
+pub mod Cases

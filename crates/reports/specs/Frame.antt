@@ -1,0 +1,26 @@
+-- The report's other lines: the number of columns, the total, and the one line of a refused sheet.
+-- Assumes nothing.
+use mathlib.Core.List.{List, [], _∷_, _++_}
+use Prim.Native.Nat.{ℕ}
+use Rattle.lines.specs.Bytes.{bytes}
+use Rattle.texts.specs.Decimal.{decimal}
+
+-- a word, its space with it, and a number
+unfoldable pub wordLine : List ℕ → ℕ → List ℕ
+unfolding decimal
+wordLine word n = word ++ decimal n
+
+-- the first line: the number of columns
+unfoldable pub columnsLine : ℕ → List ℕ
+unfolding wordLine bytes
+columnsLine c = wordLine (bytes "columns ") c
+
+-- the last line: the total
+unfoldable pub totalLine : ℕ → List ℕ
+unfolding wordLine bytes
+totalLine total = wordLine (bytes "total ") total
+
+-- the line of a refused sheet: the number of the refusal and the line of the sheet
+unfoldable pub refusedLine : ℕ → ℕ → List ℕ
+unfolding wordLine bytes
+refusedLine number place = wordLine (bytes "refused ") number ++ (32 ∷ []) ++ decimal place

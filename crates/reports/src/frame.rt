@@ -1,0 +1,46 @@
+// The report's other lines: the number of columns, the total, and the line of a refused sheet.
+ghost use Prim.Native.Nat.{_≤_};
+ghost use lib.ListN.{length};
+ghost use Rattle.reports.specs.Frame.{wordLine, columnsLine, totalLine, refusedLine};
+ghost use Rattle.reports.specs.Reports.{Starts};
+ghost use Rattle.texts.specs.Put.{Put};
+use texts::put_byte;
+use texts::put_number;
+use texts::put_text;
+
+const SPACE: u8 = 32;
+
+// Puts a word and a number at the start of the line, and answers the place after them.
+fn put_word(word: &[u8], n: usize, line: &mut [u8]) -> usize
+    requires { ⌜ length (wordLine (now word) n) ≤ length (now line) ⌝ }
+    ensures { λ r. ⌜ Put (wordLine (now (word .entry)) n) 0 (now (line .entry)) (now (line .exit)) r ⌝ }
+{
+    let next = put_text(word, line, 0);
+    put_number(n, line, next)
+}
+
+// Writes the line with the number of columns, and answers its length.
+pub fn columns_line(c: usize, line: &mut [u8]) -> usize
+    requires { ⌜ 64 ≤ length (now line) ⌝ }
+    ensures { λ r. ⌜ Starts (columnsLine c) (now (line .entry)) (now (line .exit)) r ⌝ }
+{
+    put_word(b"columns ", c, line)
+}
+
+// Writes the line with the total, and answers its length.
+pub fn total_line(total: usize, line: &mut [u8]) -> usize
+    requires { ⌜ 64 ≤ length (now line) ⌝ }
+    ensures { λ r. ⌜ Starts (totalLine total) (now (line .entry)) (now (line .exit)) r ⌝ }
+{
+    put_word(b"total ", total, line)
+}
+
+// Writes the line of a refused sheet, with the refusal's number and the sheet's line, and answers its length.
+pub fn refused_line(number: usize, place: usize, line: &mut [u8]) -> usize
+    requires { ⌜ 64 ≤ length (now line) ⌝ }
+    ensures { λ r. ⌜ Starts (refusedLine number place) (now (line .entry)) (now (line .exit)) r ⌝ }
+{
+    let space_at = put_word(b"refused ", number, line);
+    let place_at = put_byte(SPACE, line, space_at);
+    put_number(place, line, place_at)
+}
