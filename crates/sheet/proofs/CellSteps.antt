@@ -5,7 +5,7 @@ use mathlib.Core.Path.{_≡_, refl, ap, sym, _∙_}
 use Prim.Native.Nat.{ℕ, zero, suc, _+_, _<_, _≤_}
 use native.Mathlib.Nat.{not-suc-le-zero}
 use native.Mathlib.Omega.{arith}
-use lib.ListN.{length, getD, set}
+use lib.ListN.{length, getD, set, length-set}
 use lib.Seq.{getD-set-same, getD-set-other}
 use Rattle.parsimony.proofs.Order.{by-eq}
 use Rattle.cells.specs.IsRow.{rowAt}
@@ -31,19 +31,21 @@ code-none byte h = go (codeOf byte) h
     go zero g = refl
     go (suc c) g = absurd (let z : _≡_ {A = ℕ} 0 1 = cc in omega arith)
 
-pub filled-none : (sheet : List ℕ) (c at j : ℕ) (cells : List ℕ) → Filled sheet c at j 0 cells
-filled-none sheet c at j cells = record { cell = λ r h. absurd (not-suc-le-zero h) }
+pub filled-none : (sheet : List ℕ) (c at j : ℕ) (cells : List ℕ) → length cells ≡ 512 → Filled sheet c at j 0 cells
+filled-none sheet c at j cells long = record { long = long; cell = λ r h. absurd (not-suc-le-zero h) }
 
-pub filled-more : (sheet : List ℕ) (c at j n : ℕ) (cells : List ℕ) (v : ℕ) → n < length cells
+pub filled-more : (sheet : List ℕ) (c at j n : ℕ) (cells : List ℕ) (v : ℕ) → n < 512
     → v ≡ codeOf (getD sheet (rowAt at c n + j) 0) → Filled sheet c at j n cells → Filled sheet c at j (n + 1) (set cells n v)
 filled-more sheet c at j n cells v low is filled =
+    let long = filled .long in
     record {
+      long = length-set cells n v ∙ filled .long;
       cell = λ r h. by-eq r n
-          (λ e. ap (λ k. getD (set cells n v) k 0) e ∙ getD-set-same cells n v 0 low ∙ is
+          (λ e. ap (λ k. getD (set cells n v) k 0) e ∙ getD-set-same cells n v 0 (omega arith) ∙ is
           ∙ ap (λ k. codeOf (getD sheet (rowAt at c k + j) 0)) (sym e))
           (λ ne. getD-set-other cells n r v 0 ne ∙ filled .cell r (omega arith));
     }
 
 pub filled-few : (sheet : List ℕ) (c at j m n : ℕ) (cells : List ℕ) → m ≤ n → Filled sheet c at j n cells
     → Filled sheet c at j m cells
-filled-few sheet c at j m n cells h filled = record { cell = λ r k. filled .cell r (omega arith) }
+filled-few sheet c at j m n cells h filled = record { long = filled .long; cell = λ r k. filled .cell r (omega arith) }

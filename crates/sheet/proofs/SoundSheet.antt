@@ -27,7 +27,7 @@ use Rattle.sheet.specs.Judge.{Contents, Judged, sound, faulty, onReading
 faulty-sound : {f : Rattle.lines.specs.declared.Fault.Fault} {has : Contents} → faulty f ≡ sound has → ⊥
 faulty-sound e = let z : _≡_ {A = ℕ} 0 1 = cc in omega arith
 
-sound-same : {a b : Contents} → sound a ≡ sound b → a ≡ b
+pub sound-same : {a b : Contents} → sound a ≡ sound b → a ≡ b
 sound-same e = cc
 
 -- what a sound sheet came from

@@ -11,6 +11,7 @@ use Rattle.symbols.specs.Code.{codeOf}
 pub record Inside (sheet : List ℕ) (t c at j : ℕ) : Type 0 where
   pub cell : (r : ℕ) → r < t → rowAt at c r + j < length sheet
 
--- the first t entries are the sets of those cells
+-- of 512 entries, the first t are the sets of those cells
 pub record Filled (sheet : List ℕ) (c at j t : ℕ) (cells : List ℕ) : Type 0 where
+  pub long : length cells ≡ 512
   pub cell : (r : ℕ) → r < t → getD cells r 0 ≡ codeOf (getD sheet (rowAt at c r + j) 0)

@@ -12,13 +12,13 @@ use Rattle.sheet.proofs.put_cells.Statement.{statement}
 use Rattle.sheet.proofs.put_cells.Tie as tie
 
 abbrev Inv-loop : tie.InvT-loop
-Inv-loop sheet t c at j cells₀ r₀ cells r = (r ≤ t) × (length cells ≡ 512) × Filled sheet c at j r cells
+Inv-loop sheet t c at j cells₀ r₀ cells r = (r ≤ t) × Filled sheet c at j r cells
 
 abbrev μ-loop : tie.MeasureT-loop
 μ-loop sheet t c at j cells₀ r₀ cells r = t - r
 
 loop-holds : tie.Need-loop-holds Inv-loop μ-loop
-loop-holds c = (omega arith, c .before .pre .3, filled-none _ _ _ _ _)
+loop-holds c = (omega arith, filled-none _ _ _ _ _ (c .before .pre .3))
 
 add-cell-of : tie.Need-add-cell-of Inv-loop μ-loop
 add-cell-of c = search needs
@@ -51,10 +51,10 @@ loop-less : tie.Need-loop-less Inv-loop μ-loop
 loop-less c = search needs
 
 loop-again : tie.Need-loop-again Inv-loop μ-loop
-loop-again c = (let l = c .before .before .loop-test .taken in omega arith, simp length-set (c .before .before .before .loop .inv .1), filled-more _ _ _ _ _ _ _ (let l = c .before .before .loop-test .taken in let few = c .before .before .before .before .before .pre .0 in let n = c .before .before .before .loop .inv .1 in omega arith) (c .cell-of .ensures) (c .before .before .before .loop .inv .2))
+loop-again c = (let l = c .before .before .loop-test .taken in omega arith, filled-more _ _ _ _ _ _ _ (let l = c .before .before .loop-test .taken in let few = c .before .before .before .before .before .pre .0 in omega arith) (c .cell-of .ensures) (c .before .before .before .loop .inv .1))
 
 returns : tie.Need-returns Inv-loop μ-loop
-returns c = filled-few _ _ _ _ _ _ _ (c .loop-test .left) (c .before .loop .inv .2)
+returns c = filled-few _ _ _ _ _ _ _ (c .loop-test .left) (c .before .loop .inv .1)
 
 pub put-cells-spec : {M : Type 1} → statement M
 put-cells-spec =

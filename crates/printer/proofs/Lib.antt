@@ -1,0 +1,2 @@
+-- What the printer needs and gives, and the proof of its function.
+pub mod PrintSteps

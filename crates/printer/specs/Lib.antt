@@ -1,0 +1,3 @@
+-- The lines that a sheet's columns are printed as.
+-- Assumes nothing.
+pub mod SheetLine
