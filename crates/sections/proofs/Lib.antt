@@ -1,3 +1,4 @@
 pub mod Cases
 pub mod SheetLaws
+pub mod FaultLines
 pub mod SheetSteps
