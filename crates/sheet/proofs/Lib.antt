@@ -4,3 +4,4 @@ pub mod ReadSteps
 pub mod CellSteps
 pub mod SoundSheet
 pub mod TableRules
+pub mod FaultLine

@@ -1,0 +1,2 @@
+-- What the entry needs and gives, and the proofs of its functions.
+pub mod EntrySteps

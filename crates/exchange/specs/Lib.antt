@@ -1,0 +1,4 @@
+-- What the host's entry promises.
+-- Assumes nothing.
+pub mod Entry
+pub mod Held

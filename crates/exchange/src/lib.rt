@@ -1,0 +1,136 @@
+// The host's one entry: a sheet's bytes and a column number go in, that column's report line comes out.
+ghost use mathlib.Core.List.{_++_};
+ghost use mathlib.Core.Path.{_≡_};
+ghost use Prim.Native.Nat.{_+_, _*_, _≤_};
+ghost use lib.ListN.{length, take, drop};
+ghost use Rattle.exchange.specs.Entry.{Entered, codeOf, faulted};
+ghost use Rattle.exchange.specs.Held.{Held, Line};
+ghost use Rattle.lines.specs.Fault.{faultLine};
+use costs::flat_costs;
+use lines::Fault;
+use printer::sheet_line;
+use sheet::Read;
+use sheet::Sheet;
+use sheet::read_sheet;
+
+const MOST_NAMES: usize = 512;
+
+const MOST_NODES: usize = 1023;
+
+// Four entries for each node.
+const MOST_ENTRIES: usize = 4092;
+
+// The longest line and a few bytes more.
+const LINE_ROOM: usize = 1056;
+
+// No child, and barred: what the lists are filled with.
+const NO_CHILD: u16 = 65535;
+
+const BARRED: u32 = 4294967295;
+
+const WHICH: u64 = 6;
+
+const ROOM: u64 = 8;
+
+// A fault's number and its line.
+fn fault_code(fault: Fault) -> u64
+    requires { ⌜ faultLine fault ≤ 65536 ⌝ }
+    ensures { λ r. ⌜ r ≡ codeOf (faulted fault) ⌝ }
+{
+    match fault {
+        Fault::Sheet(line) => 9 + 256 * (line as u64),
+        Fault::Symbol(line) => 10 + 256 * (line as u64),
+        Fault::TreeText(line) => 11 + 256 * (line as u64),
+    }
+}
+
+// Prints the line of column j of a sheet that has been read, and answers its length.
+fn print_line(
+    sheet: &[u8],
+    s: Sheet,
+    table: [[u16; 4]; 4],
+    left: &[u16],
+    right: &[u16],
+    j: usize,
+    line: &mut [u8],
+) -> usize
+    requires { ⌜ Held (now sheet) s table (now left) (now right) j ⌝ }
+    requires { ⌜ (length (now left) ≡ 1023) × (length (now right) ≡ 1023) × (1056 ≤ length (now line)) ⌝ }
+    ensures { λ r. ⌜ Line (now (sheet .entry)) j (now (line .entry)) r (now (line .exit)) ⌝ }
+{
+    let costs = flat_costs(table);
+    let mut cells = [0u16; MOST_NAMES];
+    let mut states = [0u8; MOST_NODES];
+    let mut sets = [0u16; MOST_NODES];
+    let mut rows = [BARRED; MOST_ENTRIES];
+    let printed = sheet_line(
+        sheet,
+        s,
+        &costs,
+        left,
+        right,
+        j,
+        &mut cells,
+        &mut states,
+        &mut sets,
+        &mut rows,
+        line,
+    );
+    printed.length
+}
+
+// Copies the first n bytes of a line to the output.
+fn copy_line(line: &[u8], n: usize, out: &mut [u8])
+    requires { ⌜ (n ≤ length (now line)) × (n ≤ length (now out)) ⌝ }
+    ensures { λ _. ⌜ now (out .exit) ≡ take n (now (line .entry)) ++ drop n (now (out .entry)) ⌝ }
+{
+    let mut i = 0;
+    while i < n {
+        out[i] = line[i];
+        i += 1;
+    }
+}
+
+// The line of column j of a sheet that has been read goes to the output, where it fits.
+fn give_line(
+    sheet: &[u8],
+    s: Sheet,
+    table: [[u16; 4]; 4],
+    left: &[u16],
+    right: &[u16],
+    j: usize,
+    out: &mut [u8],
+) -> u64
+    requires { ⌜ Held (now sheet) s table (now left) (now right) j ⌝ }
+    requires { ⌜ (length (now left) ≡ 1023) × (length (now right) ≡ 1023) ⌝ }
+    ensures { λ r. ⌜ Entered (now (sheet .entry)) j (now (out .entry)) r (now (out .exit)) ⌝ }
+{
+    let mut line = [0u8; LINE_ROOM];
+    let length = print_line(sheet, s, table, left, right, j, &mut line);
+    if out.len() < length {
+        return ROOM;
+    }
+    copy_line(&line, length, out);
+    256 * (length as u64)
+}
+
+// The line of a column of the sheet, without its line end: the low 8 bits of the result are the number; bits 8 to 31 the
+// bytes written when done, the line when the sheet is refused.
+#[no_mangle]
+pub extern "C" fn fernijster_column(sheet: &[u8], column: u64, out: &mut [u8]) -> u64
+    ensures { λ r. ⌜ Entered (now (sheet .entry)) column (now (out .entry)) r (now (out .exit)) ⌝ }
+{
+    let mut names = [0usize; MOST_NAMES];
+    let mut table = [[0u16; 4]; 4];
+    let mut left = [NO_CHILD; MOST_NODES];
+    let mut right = [NO_CHILD; MOST_NODES];
+    match read_sheet(sheet, &mut names, &mut table, &mut left, &mut right) {
+        Read::Faulty(fault) => fault_code(fault),
+        Read::Sound(s) => {
+            if (s.columns as u64) <= column {
+                return WHICH;
+            }
+            give_line(sheet, s, table, &left, &right, column as usize, out)
+        }
+    }
+}
