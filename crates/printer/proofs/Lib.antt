@@ -1,2 +1,4 @@
 -- What the printer needs and gives, and the proof of its function.
 pub mod PrintSteps
+pub mod PageSteps
+pub mod ReadLaws
