@@ -21,8 +21,8 @@ use Rattle.answers.specs.declared.Start.{Start}
 use Rattle.answers.specs.declared.Start.the-variants.{Given}
 use Rattle.answers.proofs.RootLaws.{rules-sound}
 use Rattle.answers.proofs.RuleLaws.{all-not-first}
+use Rattle.roots.specs.Starts.{stateOf}
 use Rattle.scorer.specs.Promises.{Scored, Labelled, SetsFound, HandedUp}
-use Rattle.scorer.specs.Starts.{stateOf}
 use Rattle.scorer.proofs.Meaning.{score-meant, label-meant, set-meant}
 use Rattle.scorer.proofs.Outcomes.{entry-unique}
 use Rattle.scorer.proofs.ResultLaws.{row-entry}

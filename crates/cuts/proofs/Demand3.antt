@@ -27,11 +27,11 @@ use Rattle.answers.specs.declared.Start.{Start}
 use Rattle.answers.proofs.RootLaws.{rules-legal, rules-sound}
 use Rattle.scorer.specs.Results.{IsLabelling, IsSet, IsEntry}
 use Rattle.scorer.proofs.ResultLaws.{row-entry}
+use Rattle.scorer.proofs.Meaning.{labelling-same, labelling-of, set-of}
 use Rattle.cuts.specs.Call.{Answers}
 use Rattle.cuts.specs.Cut.{CutAt, part}
 use Rattle.cuts.specs.Cuttable.{Cuttable}
 use Rattle.cuts.specs.Plan.{Plan, SendsUp, ScoresBy, LabelsBy, SetsBy, Everywhere}
-use Rattle.scorer.proofs.Meaning.{labelling-same, labelling-of, set-of}
 use Rattle.cuts.proofs.PlanResults.{sends-right, sent-right, scores-right, labels-right, sets-right, plan-answers}
 
 -- a row entry of a column without handed rows may be handed up

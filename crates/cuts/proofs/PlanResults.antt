@@ -16,14 +16,14 @@ use Rattle.answers.specs.Starts.{StateStart, SetStart}
 use Rattle.answers.specs.declared.Start.{Start}
 use Rattle.answers.specs.declared.Start.the-variants.{Given}
 use Rattle.answers.proofs.RootLaws.{rules-sound, rules-node}
-use Rattle.scorer.specs.Starts.{stateOf}
+use Rattle.roots.specs.Starts.{stateOf}
+use Rattle.scorer.proofs.Meaning.{set-of}
 use Rattle.cuts.specs.Call.{LabelCall, SetsCall, Answers}
 use Rattle.cuts.specs.Cut.{CutAt, part, rest, partNode, restNode, inPart, inRest, span}
 use Rattle.cuts.specs.Cuttable.{Cuttable}
 use Rattle.cuts.specs.Piece.{Choice, nodeOf}
 use Rattle.cuts.specs.Plan.{Plan, whole, cutAt, columnsAt, SendsUp, ScoresBy, Comes, LabelsBy, SetsBy, Everywhere}
 use Rattle.cuts.proofs.CallLaws.{rules-answer, hand-up-row, score-of, labels-of, sets-of}
-use Rattle.scorer.proofs.Meaning.{set-of}
 use Rattle.cuts.proofs.CutLaws.{part-stands, rest-stands, rest-own}
 use Rattle.cuts.proofs.PieceLaws.{Stands, piece-nodes, piece-top}
 use Rattle.cuts.proofs.PieceRules.{piece-sits}

@@ -21,11 +21,11 @@ use Rattle.answers.specs.Starts.{OpenRoot, StateStart, SetStart}
 use Rattle.answers.specs.declared.Start.{Start}
 use Rattle.answers.specs.declared.Start.the-variants.{Free, Given}
 use Rattle.answers.proofs.RootLaws.{rules-sound}
+use Rattle.roots.specs.Starts.{stateOf}
 use Rattle.scorer.specs.Results.{StartLabels, TakenBy}
-use Rattle.scorer.specs.Starts.{stateOf}
+use Rattle.scorer.proofs.Meaning.{labelling-of, set-of}
 use Rattle.cuts.specs.Cut.{CutAt, part, inPart}
 use Rattle.cuts.specs.Cuttable.{Cuttable}
-use Rattle.scorer.proofs.Meaning.{labelling-of, set-of}
 use Rattle.cuts.proofs.CutLaws.{part-stands}
 use Rattle.cuts.proofs.PlanLaws.{top-row}
 

@@ -3,6 +3,7 @@
 pub mod LineLaws
 pub mod LineSteps
 pub mod QuietSteps
+pub mod QuietLaws
 pub mod ReportLaws
 pub mod Outcomes
 pub mod Cases

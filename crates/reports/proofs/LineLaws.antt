@@ -10,8 +10,8 @@ use lib.ListN.{length, length-append}
 use Rattle.parsimony.specs.StateSet.{size}
 use Rattle.parsimony.specs.Sum.{sum}
 use Rattle.parsimony.specs.Test.{at}
-use Rattle.parsimony.proofs.StateCountLaws.{size-ones}
 use Rattle.parsimony.proofs.Order.{by-eq, at-same, at-other}
+use Rattle.parsimony.proofs.StateCountLaws.{size-ones}
 use Rattle.parsimony.proofs.Sums.{sum-zero, sum-suc, sum-same}
 use Rattle.texts.specs.Decimal.{decimal}
 use Rattle.texts.proofs.DecimalLaws.{decimal-length}

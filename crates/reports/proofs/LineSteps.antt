@@ -2,15 +2,15 @@
 -- Assumes nothing.
 use mathlib.Core.List.{List, [], _∷_, _++_}
 use mathlib.Core.Path.{_≡_, refl, ap, sym, _∙_, subst}
-use Prim.Native.Nat.{ℕ, suc, _+_, _≤_, _<_}
+use Prim.Native.Nat.{ℕ, _+_, _≤_, _<_}
 use native.Mathlib.Omega.{arith}
-use lib.ListN.{length, getD, set, drop, length-append}
+use lib.ListN.{length, set}
 use Rattle.texts.specs.Decimal.{decimal}
 use Rattle.texts.specs.Put.{Put}
 use Rattle.texts.proofs.PutLaws.{put-then, put-one, put-whole}
+use Rattle.reports.specs.Frame.{wordLine}
 use Rattle.reports.specs.Letters.{letterOf, letters}
 use Rattle.reports.specs.Line.{field, lineText}
-use Rattle.reports.specs.Frame.{wordLine}
 use Rattle.reports.specs.OneState.{single, oneStates}
 use Rattle.reports.specs.Reports.{Starts}
 use Rattle.reports.proofs.LineLaws.{letters-more, ones-more, ones-most}

@@ -2,7 +2,7 @@
 -- Assumes nothing.
 use mathlib.Core.Bool.{Bool, true, false}
 use mathlib.Core.List.{List, []}
-use mathlib.Core.Path.{_≡_, ap, ap₂, sym, _∙_, subst}
+use mathlib.Core.Path.{_≡_, ap₂, _∙_, subst}
 use Prim.Native.Nat.{ℕ, _*_, _^_, _≤_, _<_}
 use native.Mathlib.Omega.{arith}
 use lib.Dec.{ltb}
@@ -28,7 +28,6 @@ use Rattle.scorer.specs.Promises.{WorkWritten, ColumnWorked}
 use Rattle.scorer.specs.declared.Work.{Work}
 use Rattle.scorer.specs.declared.Work.the-variants as Work
 use Rattle.scorer.proofs.Meaning.{score-meant, label-meant, set-of, set-meant}
-use Rattle.texts.specs.Decimal.{decimal}
 use Rattle.texts.specs.Put.{Put}
 use Rattle.texts.proofs.DecimalLaws.{decimal-length}
 use Rattle.reports.specs.Letters.{letters}

@@ -35,8 +35,8 @@ use Rattle.answers.specs.Starts.{StateStart, SetStart}
 use Rattle.answers.specs.declared.Start.{Start}
 use Rattle.answers.specs.declared.Start.the-variants.{Free, Given}
 use Rattle.answers.proofs.RootLaws.{rules-sound}
+use Rattle.roots.specs.Starts.{stateOf}
 use Rattle.scorer.specs.Results.{StartLabels, IsLabelling, IsSet}
-use Rattle.scorer.specs.Starts.{stateOf}
 use Rattle.scorer.proofs.LabelOutcomes.{label-unique}
 use Rattle.scorer.proofs.Outcomes.{set-unique}
 

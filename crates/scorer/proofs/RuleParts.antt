@@ -1,10 +1,7 @@
--- The parts of a call's rules, and the place of the root's row.
+-- The parts of a call's rules.
 -- Assumes nothing.
 use mathlib.Core.List.{[], _∷_}
-use mathlib.Core.Path.{_≡_, ap}
-use Prim.Native.Nat.{ℕ, suc, _+_, _*_, _-_, _≤_, _<_}
-use native.Mathlib.Nat.{suc-mul}
-use native.Mathlib.Omega.{arith}
+use Prim.Native.Nat.{ℕ, _≤_, _<_}
 use Rattle.answers.specs.CallRules.{
   tableRules,
   scoreRules,
@@ -52,11 +49,3 @@ hand-up-parts I j a b = parts-of I (j < I .c) (Fits I (I .s) a b)
 pub work-parts : (I : Input) (j a b d : ℕ) → All (workRules I j a b d)
     → Parts I (j < I .c) ((nodes I ≤ a) × Fits I (nodes I) b d)
 work-parts I j a b d = parts-of I (j < I .c) ((nodes I ≤ a) × Fits I (nodes I) b d)
-
--- the root's row lies in the row room, and so does a row at a place before it
-pub root-inside : (n s len at : ℕ) → 0 < n → n * s ≤ len → at ≤ (n - 1) * s → at + s ≤ len
-root-inside n s len at pos room e =
-    let step = suc-mul (n - 1) s in
-    let next : suc (n - 1) ≡ n = omega arith in
-    let same : suc (n - 1) * s ≡ n * s = ap (λ k. k * s) next in
-    omega arith

@@ -1,36 +1,30 @@
 -- From a start to the results: what the work down the tree writes is right for every start that the rules allow.
 -- Assumes nothing.
 use mathlib.Core.List.{List, []}
+use mathlib.Core.Path.{ap, sym, subst}
 use Prim.Native.Nat.{ℕ, _*_, _-_, _^_, _≤_, _<_}
 use native.Mathlib.Omega.{arith}
 use lib.Pow.{pow-mono}
+use Rattle.parsimony.specs.Column.{columnOf}
 use Rattle.parsimony.specs.Least.{low}
 use Rattle.parsimony.specs.Row.{row}
 use Rattle.parsimony.specs.Table.{kidsAt}
 use Rattle.parsimony.specs.Tree.{Descent}
-use Rattle.parsimony.proofs.LeastLaws.{low-within}
 use Rattle.answers.specs.CallRules.{tableRules}
 use Rattle.answers.specs.Input.{Input, nodes, column}
 use Rattle.answers.specs.Rules.{All}
 use Rattle.answers.specs.Starts.{StateStart, SetStart}
 use Rattle.answers.specs.declared.Start.{Start}
 use Rattle.answers.specs.declared.Start.the-variants.{Free, Given}
+use Rattle.answers.proofs.RootLaws.{rules-sound}
 use Rattle.descents.specs.Down.{chosen, settled}
 use Rattle.columns.specs.RowRoom.{Holds}
 use Rattle.steps.specs.Lane.{entryAt, leastSet}
+use Rattle.roots.specs.Starts.{stateOf}
 use Rattle.scorer.specs.Results.{IsLabelling, IsSet}
-use Rattle.scorer.specs.Starts.{stateOf}
 use Rattle.scorer.proofs.LinkLaws.{rules-state, start-is, start-set-is}
 use Rattle.scorer.proofs.Meaning.{labelling-same, labelling-of, start-within, set-of}
 use Rattle.scorer.proofs.ResultLaws.{Chosen, Settled, labels-are, sets-are}
-use Rattle.answers.proofs.RootLaws.{rules-sound}
-use Rattle.parsimony.specs.Column.{columnOf}
-use mathlib.Core.Path.{ap, sym, subst}
-
--- the root's state is a state where the one given and the free one are
-pub start-small : (start : Start) (x s : ℕ) → x < s → stateOf start 0 < s → stateOf start x < s
-start-small Free x s free given = free
-start-small (Given y) x s free given = given
 
 module _ (I : Input) (rules : All (tableRules I [])) (j : ℕ) (inside : j < I .c) where
   -- a start state is a state

@@ -1,7 +1,6 @@
 -- What the table calls promise.
 -- Assumes nothing.
 pub mod Lent
-pub mod Starts
 pub mod Counts
 pub mod Works
 pub mod Results

@@ -1,18 +1,13 @@
 // The table calls: scoring, labelling, the set call, handing up, the whole work on a column, and counting by sets.
 ghost use mathlib.Core.Path.{_≡_};
 ghost use mathlib.Core.List.{[]};
-ghost use Prim.Native.Nat.{ℕ, _+_, _*_, _-_, _<_, _≤_};
-ghost use lib.ListN.{length, getD};
+ghost use Prim.Native.Nat.{_*_, _<_, _≤_};
+ghost use lib.ListN.{length};
 ghost use Rattle.parsimony.specs.Labelling.{IsScore};
-ghost use Rattle.parsimony.specs.Allowed.{CostRules};
-ghost use Rattle.parsimony.specs.Table.{Kind, Legal, kidsAt};
+ghost use Rattle.parsimony.specs.Table.{Kind};
 ghost use Rattle.answers.specs.CallRules.{tableRules, scoreRules, labelRules, setsRules, handUpRules, workRules};
-ghost use Rattle.answers.specs.Input.{input, tipsIn, nodes, column};
+ghost use Rattle.answers.specs.Input.{input, tipsIn, column};
 ghost use Rattle.answers.specs.Rules.{All};
-ghost use Rattle.parsimony.specs.Least.{low, least};
-ghost use Rattle.steps.specs.Lane.{Calm, entryAt, leastSet};
-ghost use Rattle.descents.specs.Down.{chosen, settled, Descended};
-ghost use Rattle.scorer.specs.Starts.{stateOf};
 ghost use Rattle.scorer.specs.Promises.{
   Worked,
   ScoresWritten,
@@ -36,15 +31,13 @@ use answers::calls::label_tests;
 use answers::calls::score_tests;
 use answers::calls::sets_tests;
 use answers::calls::work_tests;
-use answers::starts::narrow;
 use columns::count::fill_prelims;
 use columns::up::fill_rows;
-use descents::fill_sets;
-use descents::fill_states;
+use roots::root_least;
+use roots::root_place;
+use roots::sets_down;
+use roots::states_down;
 use steps::copy_row;
-use steps::least_entry;
-use steps::least_set;
-use steps::lowest_least;
 use trees::shape::tips_of;
 
 // The answer of set counting: the change count, or a refusal.
@@ -57,23 +50,6 @@ pub enum Counted {
 pub enum Work {
     Done(u32),
     Refused(Refusal),
-}
-
-// Where the root's row starts in the row room.
-fn root_place(n: usize, s: usize) -> usize
-    requires { ⌜ (0 < n) × (n ≤ 1023) × (s ≤ 16) ⌝ }
-    ensures { λ r. ⌜ r ≡ (n - 1) * s ⌝ }
-{
-    (n - 1) * s
-}
-
-// The least entry of the root's row.
-fn root_least(rows: &[u32], n: usize, s: usize) -> u32
-    requires { ⌜ (0 < n) × (n ≤ 1023) × (s ≤ 16) ⌝ }
-    requires { ⌜ (n * s ≤ length (now rows)) × (0 < s) ⌝ }
-    ensures { λ r. ⌜ r ≡ least (entryAt (now (rows .entry)) ((n - 1) * s)) s ⌝ }
-{
-    least_entry(rows, root_place(n, s), s)
 }
 
 // The score of column j, where h is the number of handed tips; its rows are left in the row room.
@@ -185,40 +161,6 @@ fn work_rows(
     fill_rows(left, right, s, costs, c, cells, h, handed, j, rows);
 }
 
-// The root's state: the one given, or the lowest at which its row is least.
-fn root_state(rows: &[u32], at: usize, s: usize, start: Start) -> usize
-    requires { ⌜ (at + s ≤ length (now rows)) × (0 < s) ⌝ }
-    ensures { λ r. ⌜ r ≡ stateOf start (low (entryAt (now (rows .entry)) at) s) ⌝ }
-{
-    match start {
-        Start::Free => lowest_least(rows, at, s),
-        Start::Given(x) => x,
-    }
-}
-
-// The states of all nodes from the root's down, read off the rows.
-fn states_down(
-    left: &[u16],
-    right: &[u16],
-    s: usize,
-    costs: &[u16],
-    rows: &[u32],
-    start: Start,
-    states: &mut [u8],
-)
-    requires { ⌜ Legal (now left) (now right) ⌝ }
-    requires { ⌜ CostRules s (now costs) ⌝ }
-    requires { ⌜ ((v : ℕ) → v < length (now left) → Calm (now rows) (v * s) s) ⌝ }
-    requires { ⌜ (stateOf start 0 < s) × (length (now left) ≤ length (now states)) ⌝ }
-    ensures { λ r. ⌜ Descended (length (now (left .entry))) (kidsAt (now (left .entry)) (now (right .entry)))
-        (chosen s (now (costs .entry)) (now (rows .entry)))
-        (stateOf start (low (entryAt (now (rows .entry)) ((length (now (left .entry)) - 1) * s)) s))
-        (now (states .entry)) (now (states .exit)) ⌝ }
-{
-    let x = root_state(rows, root_place(left.len(), s), s, start);
-    fill_states(left, right, s, costs, rows, x, states);
-}
-
 // The labels of column j, from the root down.
 fn label_column(
     left: &[u16],
@@ -293,41 +235,6 @@ pub fn label(
         rows,
     );
     Answer::Done
-}
-
-// The root's set: the one given, or the states at which its row is least.
-fn root_set(rows: &[u32], at: usize, s: usize, start: Start) -> u16
-    requires { ⌜ (at + s ≤ length (now rows)) × (0 < s) × (s ≤ 16) ⌝ }
-    requires { ⌜ stateOf start 0 < 65536 ⌝ }
-    ensures { λ r. ⌜ r ≡ stateOf start (leastSet (now (rows .entry)) at s s) ⌝ }
-{
-    match start {
-        Start::Free => least_set(rows, at, s),
-        Start::Given(set) => narrow(set),
-    }
-}
-
-// The sets of all nodes from the root's down, read off the rows.
-fn sets_down(
-    left: &[u16],
-    right: &[u16],
-    s: usize,
-    costs: &[u16],
-    rows: &[u32],
-    start: Start,
-    sets: &mut [u16],
-)
-    requires { ⌜ Legal (now left) (now right) ⌝ }
-    requires { ⌜ CostRules s (now costs) ⌝ }
-    requires { ⌜ ((v : ℕ) → v < length (now left) → Calm (now rows) (v * s) s) ⌝ }
-    requires { ⌜ (stateOf start 0 < 65536) × (length (now left) ≤ length (now sets)) ⌝ }
-    ensures { λ r. ⌜ Descended (length (now (left .entry))) (kidsAt (now (left .entry)) (now (right .entry)))
-        (settled s (now (costs .entry)) (now (rows .entry)))
-        (stateOf start (leastSet (now (rows .entry)) ((length (now (left .entry)) - 1) * s) s s))
-        (now (sets .entry)) (now (sets .exit)) ⌝ }
-{
-    let set = root_set(rows, root_place(left.len(), s), s, start);
-    fill_sets(left, right, s, costs, rows, set, sets);
 }
 
 // The sets of column j, from the root down.

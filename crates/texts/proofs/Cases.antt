@@ -1,6 +1,5 @@
 -- Numbers in digits, by computation.
 -- Assumes nothing.
-use mathlib.Core.List.{[], _∷_}
 use mathlib.Core.Path.{_≡_, refl}
 use Rattle.lines.specs.Bytes.{bytes}
 use Rattle.texts.specs.Decimal.{decimal, valueOf}

@@ -1,17 +1,15 @@
 -- Laws of decimal digits: they are digits, without a leading zero, and give their number back.
 -- Assumes nothing.
 use mathlib.Core.Bool.{Bool, true, false}
-use mathlib.Core.List.{List, [], _∷_, _++_}
+use mathlib.Core.List.{List, [], _∷_, _++_, append-nil}
 use mathlib.Core.Path.{_≡_, refl, ap, ap₂, sym, _∙_, subst}
 use Prim.Native.Nat.{ℕ, zero, suc, _+_, _*_, _-_, _/_, _%_, _^_, _≤_, _<_}
 use native.Mathlib.Nat.{pow-succ'}
 use native.Mathlib.Omega.{arith}
 use borrow.Author.Tests.{lt-ltb, le-ltb}
-use lib.Dec.{ltb}
 use lib.ListN.{length, getD, length-append, List·getD-append}
-use lib.Seq.{getD-append-seam}
-use Rattle.parsimony.specs.Test.{pick}
-use Rattle.parsimony.proofs.Order.{by-lt, pick-true, pick-false, strong}
+use lib.Seq.{append-snoc, getD-append-seam}
+use Rattle.parsimony.proofs.Order.{by-lt, strong}
 use Rattle.texts.specs.Decimal.{digitsBy, decimalBy, decimal, valueFrom, valueOf}
 
 digits-one : {b : Bool} (tens : ℕ → List ℕ) (n : ℕ) → b ≡ true → digitsBy b tens n ≡ (48 + n) ∷ []
@@ -96,7 +94,7 @@ decimal-some =
     (λ n large some. let long = length-append (decimal (n / 10)) ((48 + n % 10) ∷ []) in omega arith)
 
 -- the bytes at each place are digits
-abbrev Digits : List ℕ → Type 0
+abbrev pub Digits : List ℕ → Type 0
 Digits text = (i : ℕ) → i < length text → (48 ≤ getD text i 0) × (getD text i 0 ≤ 57)
 
 -- one digit more
@@ -122,3 +120,25 @@ decimal-lead =
     by-digits (λ n digits. 0 < n → 48 < getD digits 0 0) (λ n small some. omega arith)
     (λ n large tens some. subst (λ d. 48 < d) (sym (List·getD-append (decimal (n / 10)) _ 0 0 (decimal-some (n / 10))))
     (tens (omega arith)))
+
+-- digits after those of a number that is not 0 are the digits of the number that they make
+decimal-after : (n : ℕ) → 0 < n → (more : List ℕ) → Digits more → decimal (valueFrom n more) ≡ decimal n ++ more
+unfolding valueFrom
+decimal-after n some [] digits = sym (append-nil (decimal n))
+decimal-after n some (digit ∷ more) digits =
+    let here = digits 0 (omega arith) in
+    let next : decimal (n * 10 + (digit - 48)) ≡ decimal n ++ (digit ∷ []) =
+    decimal-more (n * 10 + (digit - 48)) (omega arith)
+    ∙ ap₂ (λ tens last. decimal tens ++ (last ∷ [])) (omega arith) (omega arith) in
+    decimal-after (n * 10 + (digit - 48)) (omega arith) more (λ i h. digits (suc i) (omega arith))
+    ∙ ap (λ text. text ++ more) next
+    ∙ append-snoc (decimal n) digit more
+
+-- no other digits without a leading zero stand for a number
+pub decimal-only : (first : ℕ) (more : List ℕ) → 49 ≤ first → first ≤ 57 → Digits more
+    → decimal (valueOf (first ∷ more)) ≡ first ∷ more
+unfolding valueOf
+decimal-only first more least most digits =
+    decimal-after (0 * 10 + (first - 48)) (omega arith) more digits
+    ∙ ap (λ text. text ++ more) (decimal-small (0 * 10 + (first - 48)) (omega arith))
+    ∙ ap (λ digit. digit ∷ more) (omega arith)

@@ -8,7 +8,8 @@ use lib.ListN.{length}
 use Rattle.answers.proofs.RootLaws.{rules-node}
 use Rattle.answers.specs.Input.{Input, input, nodes}
 use Rattle.scorer.proofs.ResultLaws.{row-right}
-use Rattle.scorer.proofs.RuleParts.{hand-up-parts, root-inside}
+use Rattle.scorer.proofs.RuleParts.{hand-up-parts}
+use Rattle.roots.proofs.RootSteps.{root-inside}
 use Rattle.scorer.proofs.row_column.Statement.{statement}
 use Rattle.steps.specs.Lane.{entryAt}
 use Rattle.steps.specs.Wrote.{Wrote}

@@ -4,8 +4,8 @@ use Prim.Native.Nat.{_*_, _-_, _≤_}
 use native.Mathlib.Nat.{mul-le-mul}
 use native.Mathlib.Omega.{arith}
 use borrow.Author.Needs.{needs}
-use Rattle.scorer.proofs.root_place.Statement.{statement}
-use Rattle.scorer.proofs.root_place.Tie as tie
+use Rattle.roots.proofs.root_place.Statement.{statement}
+use Rattle.roots.proofs.root_place.Tie as tie
 
 sub-result : tie.Need-sub-result
 sub-result c = search needs

@@ -5,10 +5,10 @@ use native.Mathlib.Omega.{arith}
 use borrow.Author.Needs.{needs}
 use lib.ListN.{length}
 use Rattle.parsimony.specs.Least.{least}
-use Rattle.scorer.proofs.RuleParts.{root-inside}
-use Rattle.scorer.proofs.root_least.Statement.{statement}
+use Rattle.roots.proofs.RootSteps.{root-inside}
+use Rattle.roots.proofs.root_least.Statement.{statement}
 use Rattle.steps.specs.Lane.{entryAt}
-use Rattle.scorer.proofs.root_least.Tie as tie
+use Rattle.roots.proofs.root_least.Tie as tie
 
 root-place-requires : tie.Need-root-place-requires
 root-place-requires c κs = search needs

@@ -3,10 +3,10 @@
 use mathlib.Core.Path.{sym, ap, _∙_, subst}
 use Prim.Native.Nat.{_<_}
 use borrow.Author.Needs.{needs}
-use Rattle.scorer.proofs.root_set.Statement.{statement}
-use Rattle.scorer.specs.Starts.{stateOf}
+use Rattle.roots.proofs.root_set.Statement.{statement}
+use Rattle.roots.specs.Starts.{stateOf}
 use Rattle.steps.specs.Lane.{leastSet}
-use Rattle.scorer.proofs.root_set.Tie as tie
+use Rattle.roots.proofs.root_set.Tie as tie
 
 enum-told : tie.Need-enum-told
 enum-told c = search needs

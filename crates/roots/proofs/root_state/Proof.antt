@@ -3,10 +3,10 @@
 use mathlib.Core.Path.{sym, ap, _∙_}
 use borrow.Author.Needs.{needs}
 use Rattle.parsimony.specs.Least.{low}
-use Rattle.scorer.proofs.root_state.Statement.{statement}
-use Rattle.scorer.specs.Starts.{stateOf}
+use Rattle.roots.proofs.root_state.Statement.{statement}
+use Rattle.roots.specs.Starts.{stateOf}
 use Rattle.steps.specs.Lane.{entryAt}
-use Rattle.scorer.proofs.root_state.Tie as tie
+use Rattle.roots.proofs.root_state.Tie as tie
 
 enum-told : tie.Need-enum-told
 enum-told c = search needs

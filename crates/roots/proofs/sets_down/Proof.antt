@@ -7,10 +7,10 @@ use borrow.Author.Needs.{needs}
 use lib.ListN.{length}
 use Rattle.descents.specs.Down.{settled, Descended}
 use Rattle.parsimony.specs.Table.{kidsAt}
-use Rattle.scorer.proofs.sets_down.Statement.{statement}
-use Rattle.scorer.specs.Starts.{stateOf}
+use Rattle.roots.proofs.sets_down.Statement.{statement}
+use Rattle.roots.specs.Starts.{stateOf}
 use Rattle.steps.specs.Lane.{leastSet}
-use Rattle.scorer.proofs.sets_down.Tie as tie
+use Rattle.roots.proofs.sets_down.Tie as tie
 
 root-place-requires : tie.Need-root-place-requires
 root-place-requires c κs = search needs

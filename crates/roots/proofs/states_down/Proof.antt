@@ -9,11 +9,11 @@ use Rattle.descents.specs.Down.{chosen, Descended}
 use Rattle.parsimony.proofs.LeastLaws.{low-within}
 use Rattle.parsimony.specs.Least.{low}
 use Rattle.parsimony.specs.Table.{kidsAt}
-use Rattle.scorer.proofs.StartSteps.{start-small}
-use Rattle.scorer.proofs.states_down.Statement.{statement}
-use Rattle.scorer.specs.Starts.{stateOf}
+use Rattle.roots.proofs.RootSteps.{start-small}
+use Rattle.roots.proofs.states_down.Statement.{statement}
+use Rattle.roots.specs.Starts.{stateOf}
 use Rattle.steps.specs.Lane.{entryAt}
-use Rattle.scorer.proofs.states_down.Tie as tie
+use Rattle.roots.proofs.states_down.Tie as tie
 
 root-place-requires : tie.Need-root-place-requires
 root-place-requires c κs = search needs
