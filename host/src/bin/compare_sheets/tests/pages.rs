@@ -1,0 +1,1 @@
+//! The page for curators and the example sheets.
