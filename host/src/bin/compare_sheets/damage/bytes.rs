@@ -1,9 +1,9 @@
 //! Damages to the bytes of a sheet, wherever they fall.
 
-use super::any;
+use super::{any, BytesDamage};
 use crate::random::Random;
 
-pub const KINDS: &[(&str, fn(&mut Vec<u8>, &mut Random) -> bool)] = &[
+pub const KINDS: &[(&str, BytesDamage)] = &[
     ("byte replaced by any", replaced),
     ("byte replaced by a printed one", replaced_printed),
     ("byte inserted, any", inserted),
@@ -42,78 +42,73 @@ pub const KINDS: &[(&str, fn(&mut Vec<u8>, &mut Random) -> bool)] = &[
 
 // Bytes.
 
-fn put(text: &mut Vec<u8>, byte: u8, random: &mut Random) -> bool {
+fn put(text: &mut Vec<u8>, byte: u8, random: &mut Random) {
     text.insert(random.below(text.len() + 1), byte);
-    true
 }
 
-fn overwrite(text: &mut [u8], byte: u8, random: &mut Random) -> bool {
-    let Some(at) = any(text, random) else { return false };
+fn overwrite(text: &mut [u8], byte: u8, random: &mut Random) {
+    let Some(at) = any(text, random) else { return };
     text[at] = byte;
-    true
 }
 
 fn printed(random: &mut Random) -> u8 {
     (32 + random.below(95)) as u8
 }
 
-fn replaced(text: &mut Vec<u8>, random: &mut Random) -> bool {
+fn replaced(text: &mut Vec<u8>, random: &mut Random) {
     let byte = random.below(256) as u8;
     overwrite(text, byte, random)
 }
 
-fn replaced_printed(text: &mut Vec<u8>, random: &mut Random) -> bool {
+fn replaced_printed(text: &mut Vec<u8>, random: &mut Random) {
     let byte = printed(random);
     overwrite(text, byte, random)
 }
 
-fn inserted(text: &mut Vec<u8>, random: &mut Random) -> bool {
+fn inserted(text: &mut Vec<u8>, random: &mut Random) {
     let byte = random.below(256) as u8;
     put(text, byte, random)
 }
 
-fn inserted_printed(text: &mut Vec<u8>, random: &mut Random) -> bool {
+fn inserted_printed(text: &mut Vec<u8>, random: &mut Random) {
     let byte = printed(random);
     put(text, byte, random)
 }
 
-fn deleted(text: &mut Vec<u8>, random: &mut Random) -> bool {
-    let Some(at) = any(text, random) else { return false };
+fn deleted(text: &mut Vec<u8>, random: &mut Random) {
+    let Some(at) = any(text, random) else { return };
     text.remove(at);
-    true
 }
 
-fn many_deleted(text: &mut Vec<u8>, random: &mut Random) -> bool {
-    let Some(at) = any(text, random) else { return false };
+fn many_deleted(text: &mut Vec<u8>, random: &mut Random) {
+    let Some(at) = any(text, random) else { return };
     let end = text.len().min(at + 2 + random.below(10));
     text.drain(at..end);
-    true
 }
 
-fn swapped(text: &mut Vec<u8>, random: &mut Random) -> bool {
+fn swapped(text: &mut Vec<u8>, random: &mut Random) {
     if text.len() < 2 {
-        return false;
+        return;
     }
     let at = random.below(text.len() - 1);
     text.swap(at, at + 1);
-    true
 }
 
-fn tab(text: &mut Vec<u8>, random: &mut Random) -> bool {
+fn tab(text: &mut Vec<u8>, random: &mut Random) {
     match random.once_in(2) {
         true => put(text, 9, random),
         false => overwrite(text, 9, random),
     }
 }
 
-fn delete_sign(text: &mut Vec<u8>, random: &mut Random) -> bool {
+fn delete_sign(text: &mut Vec<u8>, random: &mut Random) {
     match random.once_in(2) {
         true => put(text, 127, random),
         false => overwrite(text, 127, random),
     }
 }
 
-fn high(text: &mut Vec<u8>, random: &mut Random) -> bool {
+fn high(text: &mut Vec<u8>, random: &mut Random) {
     let byte = (128 + random.below(128)) as u8;
     match random.once_in(2) {
         true => put(text, byte, random),
@@ -121,23 +116,21 @@ fn high(text: &mut Vec<u8>, random: &mut Random) -> bool {
     }
 }
 
-fn zero(text: &mut Vec<u8>, random: &mut Random) -> bool {
+fn zero(text: &mut Vec<u8>, random: &mut Random) {
     match random.once_in(2) {
         true => put(text, 0, random),
         false => overwrite(text, 0, random),
     }
 }
 
-fn other_alphabet(text: &mut Vec<u8>, random: &mut Random) -> bool {
+fn other_alphabet(text: &mut Vec<u8>, random: &mut Random) {
     let letter = random.pick(&["é", "ü", "А", "–", "\u{a0}"]);
     let at = random.below(text.len() + 1);
     text.splice(at..at, letter.bytes());
-    true
 }
 
-fn editor_mark(text: &mut Vec<u8>, _: &mut Random) -> bool {
+fn editor_mark(text: &mut Vec<u8>, _: &mut Random) {
     text.splice(0..0, [0xef, 0xbb, 0xbf]);
-    true
 }
 
 // Lines, each with its line end.
@@ -147,47 +140,46 @@ fn lines(text: &[u8]) -> Vec<Vec<u8>> {
 }
 
 /// Changes the list of lines, unless it is empty.
-fn edit(text: &mut Vec<u8>, random: &mut Random, edit: impl FnOnce(&mut Vec<Vec<u8>>, usize, &mut Random)) -> bool {
+fn edit(text: &mut Vec<u8>, random: &mut Random, edit: impl FnOnce(&mut Vec<Vec<u8>>, usize, &mut Random)) {
     let mut lines = lines(text);
-    let Some(i) = any(&lines, random) else { return false };
+    let Some(i) = any(&lines, random) else { return };
     edit(&mut lines, i, random);
     *text = lines.concat();
-    true
 }
 
-fn line_dropped(text: &mut Vec<u8>, random: &mut Random) -> bool {
+fn line_dropped(text: &mut Vec<u8>, random: &mut Random) {
     edit(text, random, |lines, i, _| drop(lines.remove(i)))
 }
 
-fn line_doubled(text: &mut Vec<u8>, random: &mut Random) -> bool {
+fn line_doubled(text: &mut Vec<u8>, random: &mut Random) {
     edit(text, random, |lines, i, _| lines.insert(i, lines[i].clone()))
 }
 
-fn lines_swapped(text: &mut Vec<u8>, random: &mut Random) -> bool {
+fn lines_swapped(text: &mut Vec<u8>, random: &mut Random) {
     edit(text, random, |lines, i, random| {
         let other = random.below(lines.len());
         lines.swap(i, other);
     })
 }
 
-fn line_moved(text: &mut Vec<u8>, random: &mut Random) -> bool {
+fn line_moved(text: &mut Vec<u8>, random: &mut Random) {
     edit(text, random, |lines, i, random| {
         let line = lines.remove(i);
         lines.insert(random.below(lines.len() + 1), line);
     })
 }
 
-fn empty_line(text: &mut Vec<u8>, random: &mut Random) -> bool {
+fn empty_line(text: &mut Vec<u8>, random: &mut Random) {
     edit(text, random, |lines, i, _| lines.insert(i, b"\n".to_vec()))
 }
 
 // Line ends.
 
-fn line_end_deleted(text: &mut Vec<u8>, random: &mut Random) -> bool {
+fn line_end_deleted(text: &mut Vec<u8>, random: &mut Random) {
     edit(text, random, |lines, i, _| lines[i].retain(|&byte| byte != b'\n'))
 }
 
-fn line_end_inserted(text: &mut Vec<u8>, random: &mut Random) -> bool {
+fn line_end_inserted(text: &mut Vec<u8>, random: &mut Random) {
     put(text, b'\n', random)
 }
 
@@ -195,69 +187,60 @@ fn before_line_end(line: &mut Vec<u8>, byte: u8) {
     line.insert(line.len() - 1, byte);
 }
 
-fn space_at_end(text: &mut Vec<u8>, random: &mut Random) -> bool {
+fn space_at_end(text: &mut Vec<u8>, random: &mut Random) {
     edit(text, random, |lines, i, _| before_line_end(&mut lines[i], b' '))
 }
 
-fn space_at_start(text: &mut Vec<u8>, random: &mut Random) -> bool {
+fn space_at_start(text: &mut Vec<u8>, random: &mut Random) {
     edit(text, random, |lines, i, _| lines[i].insert(0, b' '))
 }
 
-fn all_cr_lf(text: &mut Vec<u8>, _: &mut Random) -> bool {
+fn all_cr_lf(text: &mut Vec<u8>, _: &mut Random) {
     *text = text.iter().flat_map(|&byte| if byte == b'\n' { vec![13, 10] } else { vec![byte] }).collect();
-    true
 }
 
-fn one_cr_lf(text: &mut Vec<u8>, random: &mut Random) -> bool {
+fn one_cr_lf(text: &mut Vec<u8>, random: &mut Random) {
     edit(text, random, |lines, i, _| before_line_end(&mut lines[i], 13))
 }
 
-fn all_cr(text: &mut Vec<u8>, _: &mut Random) -> bool {
+fn all_cr(text: &mut Vec<u8>, _: &mut Random) {
     text.iter_mut().filter(|byte| **byte == b'\n').for_each(|byte| *byte = 13);
-    true
 }
 
 // Ends of the file.
 
-fn last_line_end_missing(text: &mut Vec<u8>, _: &mut Random) -> bool {
-    text.pop_if(|byte| *byte == b'\n').is_some()
+fn last_line_end_missing(text: &mut Vec<u8>, _: &mut Random) {
+    text.pop_if(|byte| *byte == b'\n');
 }
 
-fn cut_anywhere(text: &mut Vec<u8>, random: &mut Random) -> bool {
+fn cut_anywhere(text: &mut Vec<u8>, random: &mut Random) {
     text.truncate(random.below(text.len() + 1));
-    true
 }
 
-fn cut_behind_a_line(text: &mut Vec<u8>, random: &mut Random) -> bool {
+fn cut_behind_a_line(text: &mut Vec<u8>, random: &mut Random) {
     edit(text, random, |lines, i, _| lines.truncate(i))
 }
 
-fn empty(text: &mut Vec<u8>, _: &mut Random) -> bool {
+fn empty(text: &mut Vec<u8>, _: &mut Random) {
     text.clear();
-    true
 }
 
-fn empty_line_behind(text: &mut Vec<u8>, _: &mut Random) -> bool {
+fn empty_line_behind(text: &mut Vec<u8>, _: &mut Random) {
     text.push(b'\n');
-    true
 }
 
-fn text_behind(text: &mut Vec<u8>, random: &mut Random) -> bool {
+fn text_behind(text: &mut Vec<u8>, random: &mut Random) {
     text.extend(random.pick(&[&b"tree 1\n"[..], b"end\n", b" \n", b"(a,b);\n", b"# a note\n\n"]));
-    true
 }
 
-fn unended_behind(text: &mut Vec<u8>, random: &mut Random) -> bool {
+fn unended_behind(text: &mut Vec<u8>, random: &mut Random) {
     text.extend(random.pick(&[&b" "[..], b";", b"tree 1", b"x"]));
-    true
 }
 
-fn bad_byte_behind(text: &mut Vec<u8>, random: &mut Random) -> bool {
+fn bad_byte_behind(text: &mut Vec<u8>, random: &mut Random) {
     text.extend(random.pick(&[&b"\x1a"[..], b"\0", b"\r\n", b"\xff\n", b"\t\n"]));
-    true
 }
 
-fn sheet_behind(text: &mut Vec<u8>, _: &mut Random) -> bool {
+fn sheet_behind(text: &mut Vec<u8>, _: &mut Random) {
     text.extend_from_within(..);
-    true
 }

@@ -1,5 +1,7 @@
 //! Damages, by kinds. Whether and how a damaged sheet is refused, the reader says.
 
+// All kinds have one type, whether they make the sheet longer or not.
+#[allow(clippy::ptr_arg)]
 mod bytes;
 mod counts;
 mod names_and_cells;
@@ -9,11 +11,15 @@ mod tree;
 use crate::draft::Draft;
 use crate::random::Random;
 
-/// A damage done to a part of a draft, or to the finished bytes; false if there is nothing to do it to.
+/// A damage to a part of a draft. Where there is nothing to damage, nothing changes.
+pub type PartDamage = fn(&mut Draft, &mut Random);
+/// A damage to the finished bytes.
+pub type BytesDamage = fn(&mut Vec<u8>, &mut Random);
+
 #[derive(Clone, Copy)]
 pub enum Damage {
-    Part(fn(&mut Draft, &mut Random) -> bool),
-    Bytes(fn(&mut Vec<u8>, &mut Random) -> bool),
+    Part(PartDamage),
+    Bytes(BytesDamage),
 }
 
 /// A kind of damage, with what it is called.
@@ -38,22 +44,21 @@ pub fn damaged(draft: &Draft, kinds: &[Kind], random: &mut Random) -> (Vec<u8>, 
     }
 }
 
-/// Does damages in their order: those to parts, then those to the bytes. Gives the kinds that there was something for.
+/// Does damages in their order: those to parts, then those to the bytes. Gives the kinds that changed something.
 fn do_all(mut draft: Draft, kinds: &[Kind], drawn: &[usize], random: &mut Random) -> (Vec<u8>, Vec<usize>) {
     let mut done = Vec::new();
-    for &kind in drawn {
-        if let (_, Damage::Part(damage)) = kinds[kind] {
-            if damage(&mut draft, random) {
-                done.push(kind);
-            }
-        }
-    }
     let mut text = draft.text();
     for &kind in drawn {
-        if let (_, Damage::Bytes(damage)) = kinds[kind] {
-            if damage(&mut text, random) {
-                done.push(kind);
+        let before = text.clone();
+        match kinds[kind].1 {
+            Damage::Part(damage) => {
+                damage(&mut draft, random);
+                text = draft.text();
             }
+            Damage::Bytes(damage) => damage(&mut text, random),
+        }
+        if text != before {
+            done.push(kind);
         }
     }
     (text, done)
@@ -68,10 +73,9 @@ fn any<T>(list: &[T], random: &mut Random) -> Option<usize> {
 }
 
 /// Changes any element of a list, if it has one.
-fn change<T>(list: &mut [T], random: &mut Random, change: impl FnOnce(&mut T, &mut Random)) -> bool {
-    let Some(i) = any(list, random) else { return false };
+fn change<T>(list: &mut [T], random: &mut Random, change: impl FnOnce(&mut T, &mut Random)) {
+    let Some(i) = any(list, random) else { return };
     change(&mut list[i], random);
-    true
 }
 
 /// Puts bytes into a line, anywhere.

@@ -1,10 +1,10 @@
 //! Damages to the names and to the cell lines.
 
-use super::{any, change, put_in};
+use super::{any, change, put_in, PartDamage};
 use crate::draft::{name_of, Draft, CELLS, NAMES, SYMBOLS, TREE};
 use crate::random::Random;
 
-pub const KINDS: &[(&str, fn(&mut Draft, &mut Random) -> bool)] = &[
+pub const KINDS: &[(&str, PartDamage)] = &[
     ("name of another", name_of_another),
     ("name of another, in the tree too", name_of_another_everywhere),
     ("name in other case", name_in_other_case),
@@ -34,21 +34,19 @@ pub const KINDS: &[(&str, fn(&mut Draft, &mut Random) -> bool)] = &[
 
 // Names.
 
-fn name_of_another(draft: &mut Draft, random: &mut Random) -> bool {
+fn name_of_another(draft: &mut Draft, random: &mut Random) {
     let (Some(i), Some(other)) = (any(&draft.parts[NAMES], random), any(&draft.parts[NAMES], random)) else {
-        return false;
+        return;
     };
     draft.parts[NAMES][i] = draft.parts[NAMES][other].clone();
-    i != other
 }
 
-fn name_of_another_everywhere(draft: &mut Draft, random: &mut Random) -> bool {
+fn name_of_another_everywhere(draft: &mut Draft, random: &mut Random) {
     let (Some(i), Some(other)) = (any(&draft.parts[NAMES], random), any(&draft.parts[NAMES], random)) else {
-        return false;
+        return;
     };
     let name = draft.parts[NAMES][other].clone();
     renamed(draft, i, name);
-    i != other
 }
 
 /// Renames in the tree too, where there is one.
@@ -59,134 +57,122 @@ fn renamed(draft: &mut Draft, i: usize, name: Vec<u8>) {
     }
 }
 
-/// In the list of names, in the tree, or in both.
-fn name_in_other_case(draft: &mut Draft, random: &mut Random) -> bool {
-    let Some(i) = any(&draft.parts[NAMES], random) else { return false };
-    let old = draft.parts[NAMES][i].clone();
-    let mut other = old.clone();
-    let Some(at) = any(&other, random) else { return false };
+/// In the list of names, and at times in the tree too.
+fn name_in_other_case(draft: &mut Draft, random: &mut Random) {
+    let Some(i) = any(&draft.parts[NAMES], random) else { return };
+    let mut other = draft.parts[NAMES][i].clone();
+    let Some(at) = any(&other, random) else { return };
     other[at] ^= if other[at].is_ascii_alphabetic() { 32 } else { 0 };
-    let changed = other != old;
-    let keep = random.below(3);
-    if keep == 0 {
-        renamed(draft, i, other);
-    } else {
-        draft.parts[NAMES][i] = other;
+    match random.once_in(3) {
+        true => renamed(draft, i, other),
+        false => draft.parts[NAMES][i] = other,
     }
-    changed
 }
 
-fn name_with_other_byte(draft: &mut Draft, random: &mut Random) -> bool {
+fn name_with_other_byte(draft: &mut Draft, random: &mut Random) {
     let byte = random.pick(b" !\"#$%&'()*+,/:;<=>?@[\\]^`{|}~");
     change(&mut draft.parts[NAMES], random, |name, random| put_in(name, &[byte], random))
 }
 
-fn name_with_space(draft: &mut Draft, random: &mut Random) -> bool {
+fn name_with_space(draft: &mut Draft, random: &mut Random) {
     change(&mut draft.parts[NAMES], random, |name, random| match random.once_in(2) {
         true => name.push(b' '),
         false => name.insert(0, b' '),
     })
 }
 
-fn empty_name(draft: &mut Draft, random: &mut Random) -> bool {
+fn empty_name(draft: &mut Draft, random: &mut Random) {
     change(&mut draft.parts[NAMES], random, |name, _| name.clear())
 }
 
 /// 31 to 34 letters, in the tree too: up to 32 the sheet stays sound.
-fn long_name(draft: &mut Draft, random: &mut Random) -> bool {
-    let Some(i) = any(&draft.parts[NAMES], random) else { return false };
+fn long_name(draft: &mut Draft, random: &mut Random) {
+    let Some(i) = any(&draft.parts[NAMES], random) else { return };
     let name = name_of(31 + random.below(4), random);
     renamed(draft, i, name);
-    true
 }
 
-fn name_left_out(draft: &mut Draft, random: &mut Random) -> bool {
-    let Some(i) = any(&draft.parts[NAMES], random) else { return false };
+fn name_left_out(draft: &mut Draft, random: &mut Random) {
+    let Some(i) = any(&draft.parts[NAMES], random) else { return };
     draft.parts[NAMES].remove(i);
-    true
 }
 
-fn name_too_many(draft: &mut Draft, random: &mut Random) -> bool {
+fn name_too_many(draft: &mut Draft, random: &mut Random) {
     let at = random.below(draft.parts[NAMES].len() + 1);
     let name = name_of(5, random);
     draft.parts[NAMES].insert(at, name);
-    true
 }
 
 /// A name more with its cells, counted.
-fn name_beside_the_tree(draft: &mut Draft, random: &mut Random) -> bool {
-    let Some(cells) = any(&draft.parts[CELLS], random) else { return false };
+fn name_beside_the_tree(draft: &mut Draft, random: &mut Random) {
+    let Some(cells) = any(&draft.parts[CELLS], random) else { return };
     let (name, cells) = (name_of(6, random), draft.parts[CELLS][cells].clone());
     draft.parts[NAMES].push(name);
     draft.parts[CELLS].push(cells);
     draft.recount();
-    true
 }
 
 /// A name taken out with its cells, counted.
-fn name_in_the_tree_only(draft: &mut Draft, random: &mut Random) -> bool {
+fn name_in_the_tree_only(draft: &mut Draft, random: &mut Random) {
     if draft.parts[NAMES].len() < 2 || draft.parts[CELLS].len() < 2 {
-        return false;
+        return;
     }
     let i = random.below(draft.parts[NAMES].len());
     draft.parts[NAMES].remove(i);
     draft.parts[CELLS].pop();
     draft.recount();
-    true
 }
 
 /// Another order of the names, which a sheet may have: other tips then have the cells.
-fn names_swapped(draft: &mut Draft, random: &mut Random) -> bool {
+fn names_swapped(draft: &mut Draft, random: &mut Random) {
     let n = draft.parts[NAMES].len();
     if n < 2 {
-        return false;
+        return;
     }
     draft.parts[NAMES].swap(random.below(n), random.below(n));
-    true
 }
 
 // Cells.
 
 /// Changes a cell of any line that has one.
-fn cell(draft: &mut Draft, random: &mut Random, change: impl FnOnce(&mut u8, &mut Random)) -> bool {
+fn cell(draft: &mut Draft, random: &mut Random, change: impl FnOnce(&mut u8, &mut Random)) {
     let mut cells: Vec<&mut u8> = draft.parts[CELLS].iter_mut().flatten().collect();
-    let Some(i) = any(&cells, random) else { return false };
+    let Some(i) = any(&cells, random) else { return };
     change(cells[i], random);
-    true
 }
 
-fn unlisted_letter(draft: &mut Draft, random: &mut Random) -> bool {
+fn unlisted_letter(draft: &mut Draft, random: &mut Random) {
     cell(draft, random, |symbol, random| *symbol = random.pick(b"EFIJLOPQXZ"))
 }
 
-fn small_letter(draft: &mut Draft, random: &mut Random) -> bool {
+fn small_letter(draft: &mut Draft, random: &mut Random) {
     cell(draft, random, |symbol, random| *symbol = random.pick(SYMBOLS).to_ascii_lowercase())
 }
 
-fn space_in_a_cell(draft: &mut Draft, random: &mut Random) -> bool {
+fn space_in_a_cell(draft: &mut Draft, random: &mut Random) {
     cell(draft, random, |symbol, _| *symbol = b' ')
 }
 
-fn unlisted_sign(draft: &mut Draft, random: &mut Random) -> bool {
+fn unlisted_sign(draft: &mut Draft, random: &mut Random) {
     cell(draft, random, |symbol, random| *symbol = random.pick(b"!\"#$%&'()*+,./0123456789:;<=>@[\\]^_`{|}~"))
 }
 
-fn cells_longer(draft: &mut Draft, random: &mut Random) -> bool {
+fn cells_longer(draft: &mut Draft, random: &mut Random) {
     change(&mut draft.parts[CELLS], random, |line, random| {
         let symbol = random.pick(SYMBOLS);
         put_in(line, &[symbol], random);
     })
 }
 
-fn cells_shorter(draft: &mut Draft, random: &mut Random) -> bool {
+fn cells_shorter(draft: &mut Draft, random: &mut Random) {
     change(&mut draft.parts[CELLS], random, |line, _| line.truncate(line.len().saturating_sub(1)))
 }
 
-fn cells_longer_and_unlisted(draft: &mut Draft, random: &mut Random) -> bool {
+fn cells_longer_and_unlisted(draft: &mut Draft, random: &mut Random) {
     change(&mut draft.parts[CELLS], random, |line, random| put_in(line, b"J", random))
 }
 
-fn cells_shorter_and_unlisted(draft: &mut Draft, random: &mut Random) -> bool {
+fn cells_shorter_and_unlisted(draft: &mut Draft, random: &mut Random) {
     change(&mut draft.parts[CELLS], random, |line, random| {
         line.pop();
         let at = any(line, random);
@@ -194,7 +180,7 @@ fn cells_shorter_and_unlisted(draft: &mut Draft, random: &mut Random) -> bool {
     })
 }
 
-fn cells_spaced(draft: &mut Draft, random: &mut Random) -> bool {
+fn cells_spaced(draft: &mut Draft, random: &mut Random) {
     change(&mut draft.parts[CELLS], random, |line, random| match random.below(3) {
         0 => line.push(b' '),
         1 => line.insert(0, b' '),
@@ -202,24 +188,21 @@ fn cells_spaced(draft: &mut Draft, random: &mut Random) -> bool {
     })
 }
 
-fn cells_empty(draft: &mut Draft, random: &mut Random) -> bool {
+fn cells_empty(draft: &mut Draft, random: &mut Random) {
     change(&mut draft.parts[CELLS], random, |line, _| line.clear())
 }
 
-fn cells_left_out(draft: &mut Draft, random: &mut Random) -> bool {
-    let Some(i) = any(&draft.parts[CELLS], random) else { return false };
+fn cells_left_out(draft: &mut Draft, random: &mut Random) {
+    let Some(i) = any(&draft.parts[CELLS], random) else { return };
     draft.parts[CELLS].remove(i);
-    true
 }
 
-fn cells_too_many(draft: &mut Draft, random: &mut Random) -> bool {
-    let Some(i) = any(&draft.parts[CELLS], random) else { return false };
+fn cells_too_many(draft: &mut Draft, random: &mut Random) {
+    let Some(i) = any(&draft.parts[CELLS], random) else { return };
     let line = draft.parts[CELLS][i].clone();
     draft.parts[CELLS].push(line);
-    true
 }
 
-fn all_cells_left_out(draft: &mut Draft, _: &mut Random) -> bool {
+fn all_cells_left_out(draft: &mut Draft, _: &mut Random) {
     draft.parts[CELLS].clear();
-    true
 }

@@ -1,10 +1,10 @@
 //! Damages to the tree line.
 
-use super::{any, put_in};
+use super::{any, put_in, PartDamage};
 use crate::draft::{names_of, Draft, TREE};
 use crate::random::Random;
 
-pub const KINDS: &[(&str, fn(&mut Draft, &mut Random) -> bool)] = &[
+pub const KINDS: &[(&str, PartDamage)] = &[
     ("tree name unknown", unknown),
     ("tree name for another", for_another),
     ("tree name written twice", twice),
@@ -44,21 +44,19 @@ pub const KINDS: &[(&str, fn(&mut Draft, &mut Random) -> bool)] = &[
 ];
 
 /// Changes the tree line, if there is one.
-fn line(draft: &mut Draft, random: &mut Random, edit: impl FnOnce(&mut Vec<u8>, &mut Random)) -> bool {
-    let Some(line) = draft.parts[TREE].first_mut() else { return false };
+fn line(draft: &mut Draft, random: &mut Random, edit: impl FnOnce(&mut Vec<u8>, &mut Random)) {
+    let Some(line) = draft.parts[TREE].first_mut() else { return };
     edit(line, random);
-    true
 }
 
 /// Puts another text for any name of the tree line.
-fn name(draft: &mut Draft, random: &mut Random, edit: impl FnOnce(&[u8], &mut Random) -> Vec<u8>) -> bool {
-    let Some(line) = draft.parts[TREE].first_mut() else { return false };
+fn name(draft: &mut Draft, random: &mut Random, edit: impl FnOnce(&[u8], &mut Random) -> Vec<u8>) {
+    let Some(line) = draft.parts[TREE].first_mut() else { return };
     let places = names_of(line);
-    let Some(i) = any(&places, random) else { return false };
+    let Some(i) = any(&places, random) else { return };
     let (at, length) = places[i];
     let text = edit(&line[at..at + length], random);
     line.splice(at..at + length, text);
-    true
 }
 
 /// The places of a sign in the tree line.
@@ -67,14 +65,13 @@ fn places(line: &[u8], signs: &[u8]) -> Vec<usize> {
 }
 
 /// Puts another text for any of these signs in the tree line.
-fn sign(draft: &mut Draft, signs: &[u8], random: &mut Random, edit: impl FnOnce(u8) -> Vec<u8>) -> bool {
-    let Some(line) = draft.parts[TREE].first_mut() else { return false };
+fn sign(draft: &mut Draft, signs: &[u8], random: &mut Random, edit: impl FnOnce(u8) -> Vec<u8>) {
+    let Some(line) = draft.parts[TREE].first_mut() else { return };
     let places = places(line, signs);
-    let Some(i) = any(&places, random) else { return false };
+    let Some(i) = any(&places, random) else { return };
     let at = places[i];
     let text = edit(line[at]);
     line.splice(at..=at, text);
-    true
 }
 
 /// Any name that the tree line has.
@@ -87,21 +84,21 @@ fn some_name(draft: &Draft, random: &mut Random) -> Option<Vec<u8>> {
 
 // Names.
 
-fn unknown(draft: &mut Draft, random: &mut Random) -> bool {
+fn unknown(draft: &mut Draft, random: &mut Random) {
     name(draft, random, |_, random| random.pick(&[&b"nobody"[..], b"1", b"_._", b"Vitis"]).to_vec())
 }
 
-fn for_another(draft: &mut Draft, random: &mut Random) -> bool {
-    let Some(other) = some_name(draft, random) else { return false };
+fn for_another(draft: &mut Draft, random: &mut Random) {
+    let Some(other) = some_name(draft, random) else { return };
     name(draft, random, |_, _| other)
 }
 
-fn twice(draft: &mut Draft, random: &mut Random) -> bool {
+fn twice(draft: &mut Draft, random: &mut Random) {
     name(draft, random, |name, _| [b"(", name, b",", name, b")"].concat())
 }
 
 /// A pair of two names becomes one of them.
-fn left_out(draft: &mut Draft, random: &mut Random) -> bool {
+fn left_out(draft: &mut Draft, random: &mut Random) {
     let keep = random.below(2);
     line(draft, random, |line, random| {
         let is_pair = |at: &usize| {
@@ -118,81 +115,81 @@ fn left_out(draft: &mut Draft, random: &mut Random) -> bool {
     })
 }
 
-fn beside_unknown(draft: &mut Draft, random: &mut Random) -> bool {
+fn beside_unknown(draft: &mut Draft, random: &mut Random) {
     name(draft, random, |name, random| match random.once_in(2) {
         true => [b"(", name, b",nobody)"].concat(),
         false => [b"(nobody,", name, b")"].concat(),
     })
 }
 
-fn other_case(draft: &mut Draft, random: &mut Random) -> bool {
+fn other_case(draft: &mut Draft, random: &mut Random) {
     name(draft, random, |name, _| {
         name.iter().map(|byte| if byte.is_ascii_alphabetic() { byte ^ 32 } else { *byte }).collect()
     })
 }
 
-fn longer(draft: &mut Draft, random: &mut Random) -> bool {
+fn longer(draft: &mut Draft, random: &mut Random) {
     name(draft, random, |name, random| match random.once_in(2) {
         true => [name, b"x"].concat(),
         false => [b"x", name].concat(),
     })
 }
 
-fn shorter(draft: &mut Draft, random: &mut Random) -> bool {
+fn shorter(draft: &mut Draft, random: &mut Random) {
     name(draft, random, |name, random| match random.once_in(2) {
         true => name[1..].to_vec(),
         false => name[..name.len() - 1].to_vec(),
     })
 }
 
-fn run_together(draft: &mut Draft, random: &mut Random) -> bool {
-    let Some(other) = some_name(draft, random) else { return false };
+fn run_together(draft: &mut Draft, random: &mut Random) {
+    let Some(other) = some_name(draft, random) else { return };
     name(draft, random, |name, _| [name, &other].concat())
 }
 
 // Brackets, commas, semicolons.
 
-fn bracket_left_out(draft: &mut Draft, random: &mut Random) -> bool {
+fn bracket_left_out(draft: &mut Draft, random: &mut Random) {
     sign(draft, b"()", random, |_| Vec::new())
 }
 
-fn bracket_too_many(draft: &mut Draft, random: &mut Random) -> bool {
+fn bracket_too_many(draft: &mut Draft, random: &mut Random) {
     let bracket = random.pick(b"()");
     line(draft, random, |line, random| put_in(line, &[bracket], random))
 }
 
-fn bracket_turned(draft: &mut Draft, random: &mut Random) -> bool {
+fn bracket_turned(draft: &mut Draft, random: &mut Random) {
     sign(draft, b"()", random, |bracket| vec![if bracket == b'(' { b')' } else { b'(' }])
 }
 
-fn comma_left_out(draft: &mut Draft, random: &mut Random) -> bool {
+fn comma_left_out(draft: &mut Draft, random: &mut Random) {
     sign(draft, b",", random, |_| Vec::new())
 }
 
-fn comma_too_many(draft: &mut Draft, random: &mut Random) -> bool {
+fn comma_too_many(draft: &mut Draft, random: &mut Random) {
     line(draft, random, |line, random| put_in(line, b",", random))
 }
 
-fn no_semicolon(draft: &mut Draft, random: &mut Random) -> bool {
+fn no_semicolon(draft: &mut Draft, random: &mut Random) {
     sign(draft, b";", random, |_| Vec::new())
 }
 
-fn semicolon_too_many(draft: &mut Draft, random: &mut Random) -> bool {
+fn semicolon_too_many(draft: &mut Draft, random: &mut Random) {
     line(draft, random, |line, random| put_in(line, b";", random))
 }
 
-fn behind_semicolon(draft: &mut Draft, random: &mut Random) -> bool {
+fn behind_semicolon(draft: &mut Draft, random: &mut Random) {
     let more = random.pick(&[&b";"[..], b" ", b"a", b"()", b",", b")", b"(a,b);", b"#"]);
     line(draft, random, |line, _| line.extend(more))
 }
 
 // What other tree texts have.
 
-fn space(draft: &mut Draft, random: &mut Random) -> bool {
+fn space(draft: &mut Draft, random: &mut Random) {
     line(draft, random, |line, random| put_in(line, b" ", random))
 }
 
-fn length(draft: &mut Draft, random: &mut Random) -> bool {
+fn length(draft: &mut Draft, random: &mut Random) {
     let length = random.pick(&[&b":1"[..], b":0.25", b":", b":1e-3"]);
     match random.once_in(3) {
         true => sign(draft, b")", random, |_| [b")", length].concat()),
@@ -200,17 +197,17 @@ fn length(draft: &mut Draft, random: &mut Random) -> bool {
     }
 }
 
-fn inner_name(draft: &mut Draft, random: &mut Random) -> bool {
-    let Some(known) = some_name(draft, random) else { return false };
+fn inner_name(draft: &mut Draft, random: &mut Random) {
+    let Some(known) = some_name(draft, random) else { return };
     let inner = random.pick(&[&known[..], b"inner", b"1", b"0.95"]).to_vec();
     sign(draft, b")", random, |_| [b")", &inner[..]].concat())
 }
 
-fn bracketed_name(draft: &mut Draft, random: &mut Random) -> bool {
+fn bracketed_name(draft: &mut Draft, random: &mut Random) {
     name(draft, random, |name, _| [b"(", name, b")"].concat())
 }
 
-fn bracketed_whole(draft: &mut Draft, random: &mut Random) -> bool {
+fn bracketed_whole(draft: &mut Draft, random: &mut Random) {
     line(draft, random, |line, _| {
         let end = line.iter().position(|&byte| byte == b';').unwrap_or(line.len());
         line.insert(end, b')');
@@ -219,7 +216,7 @@ fn bracketed_whole(draft: &mut Draft, random: &mut Random) -> bool {
 }
 
 /// A third in a pair: an unknown name, or brackets that stand around a pair fall away.
-fn three(draft: &mut Draft, random: &mut Random) -> bool {
+fn three(draft: &mut Draft, random: &mut Random) {
     if random.once_in(2) {
         return sign(draft, b")", random, |_| b",nobody)".to_vec());
     }
@@ -231,13 +228,13 @@ fn three(draft: &mut Draft, random: &mut Random) -> bool {
     })
 }
 
-fn empty_pair(draft: &mut Draft, random: &mut Random) -> bool {
+fn empty_pair(draft: &mut Draft, random: &mut Random) {
     let pair = random.pick(&[&b"()"[..], b"(,)", b"(,a)", b"(a,)", b""]);
     name(draft, random, |_, _| pair.to_vec())
 }
 
 /// Brackets that open more often than they may: closed again or not, around names or around nothing.
-fn deep(draft: &mut Draft, random: &mut Random) -> bool {
+fn deep(draft: &mut Draft, random: &mut Random) {
     let brackets = random.pick(&[127, 128, 129, 130, 256, 1_000]);
     line(draft, random, |line, random| match random.below(3) {
         0 => drop(line.splice(0..0, vec![b'('; brackets])),
@@ -249,60 +246,59 @@ fn deep(draft: &mut Draft, random: &mut Random) -> bool {
     })
 }
 
-fn comment(draft: &mut Draft, random: &mut Random) -> bool {
+fn comment(draft: &mut Draft, random: &mut Random) {
     let comment = random.pick(&[&b"[&R]"[..], b"[x]", b"#", b"//"]);
     line(draft, random, |line, random| put_in(line, comment, random))
 }
 
-fn quotes(draft: &mut Draft, random: &mut Random) -> bool {
+fn quotes(draft: &mut Draft, random: &mut Random) {
     let quote = random.pick(&[&b"'"[..], b"\""]);
     name(draft, random, |name, _| [quote, name, quote].concat())
 }
 
-fn other_brackets(draft: &mut Draft, random: &mut Random) -> bool {
+fn other_brackets(draft: &mut Draft, random: &mut Random) {
     let (open, close) = random.pick(&[(b'[', b']'), (b'{', b'}'), (b'<', b'>')]);
     sign(draft, b"()", random, |bracket| vec![if bracket == b'(' { open } else { close }])
 }
 
 // The line as a whole.
 
-fn empty(draft: &mut Draft, random: &mut Random) -> bool {
+fn empty(draft: &mut Draft, random: &mut Random) {
     line(draft, random, |line, _| line.clear())
 }
 
-fn only_semicolon(draft: &mut Draft, random: &mut Random) -> bool {
+fn only_semicolon(draft: &mut Draft, random: &mut Random) {
     line(draft, random, |line, _| *line = b";".to_vec())
 }
 
 /// Its names, brackets, commas and semicolon, some of them left out, in any order.
-fn any_order(draft: &mut Draft, random: &mut Random) -> bool {
-    let Some(known) = some_name(draft, random) else { return false };
+fn any_order(draft: &mut Draft, random: &mut Random) {
+    let Some(known) = some_name(draft, random) else { return };
     line(draft, random, |line, random| {
         let signs = [&b"("[..], b")", b",", b";", &known];
         *line = (0..random.below(9)).flat_map(|_| random.pick(&signs).to_vec()).collect();
     })
 }
 
-fn cut_off(draft: &mut Draft, random: &mut Random) -> bool {
+fn cut_off(draft: &mut Draft, random: &mut Random) {
     line(draft, random, |line, random| line.truncate(random.below(line.len().max(1))))
 }
 
-fn line_left_out(draft: &mut Draft, _: &mut Random) -> bool {
-    draft.parts[TREE].pop().is_some()
+fn line_left_out(draft: &mut Draft, _: &mut Random) {
+    draft.parts[TREE].pop();
 }
 
-fn line_twice(draft: &mut Draft, _: &mut Random) -> bool {
-    let Some(line) = draft.parts[TREE].first().cloned() else { return false };
+fn line_twice(draft: &mut Draft, _: &mut Random) {
+    let Some(line) = draft.parts[TREE].first().cloned() else { return };
     draft.parts[TREE].push(line);
-    true
 }
 
-fn line_in_two(draft: &mut Draft, random: &mut Random) -> bool {
+fn line_in_two(draft: &mut Draft, random: &mut Random) {
     line(draft, random, |line, random| put_in(line, b"\n", random))
 }
 
 /// Two names of the tree change places, which a tree line may have.
-fn turned_around(draft: &mut Draft, random: &mut Random) -> bool {
+fn turned_around(draft: &mut Draft, random: &mut Random) {
     line(draft, random, |line, random| {
         let places = names_of(line);
         let (Some(i), Some(j)) = (any(&places, random), any(&places, random)) else { return };
