@@ -21,7 +21,7 @@ fn paper() -> Vec<&'static str> {
 }
 
 /// The paper's sheet with a line changed.
-fn changed<'a>(number: usize, line: &'a str) -> Vec<&'a str> {
+fn changed(number: usize, line: &str) -> Vec<&str> {
     let mut lines = paper();
     lines[number - 1] = line;
     lines
