@@ -10,8 +10,7 @@ fn main() {
     let host = PathBuf::from(env::var_os("CARGO_MANIFEST_DIR").expect("cargo names the package's folder"));
     let folder = host.join("..").join("target").join("staticlib");
     let (calls, exchange) = (folder.join("libcalls.a"), folder.join("libexchange.a"));
-    println!("cargo:rerun-if-changed={}", calls.display());
-    println!("cargo:rerun-if-changed={}", exchange.display());
+    println!("cargo:rerun-if-changed={}", folder.display());
     println!("cargo:rustc-check-cfg=cfg(exchange)");
     assert!(calls.is_file(), "there is no {}: make it by `rt staticlib calls`", calls.display());
     println!("cargo:rustc-link-search=native={}", folder.display());

@@ -67,10 +67,20 @@ fn a_program_that_prints_the_same_of_every_sheet_is_found() {
     assert!(compared(model, &Constant).is_err());
 }
 
+#[test]
+fn which_and_room_carry_nothing_and_the_room_needed_is_the_line_without_its_end() {
+    let mut out = [0; 13];
+    assert_eq!(model(PAPER, 0, &mut out), 13 << 8);
+    assert_eq!(&out, b"0 1 1 4 AAAGA");
+    assert_eq!(model(PAPER, 0, &mut out[..12]), 8);
+    assert_eq!(model(PAPER, 2, &mut []), 6);
+    assert_eq!(model(&PAPER[1..], 2, &mut []), 1 << 8 | 9);
+}
+
 /// Each of these breaks one rule.
 #[test]
 fn entries_that_break_a_rule_are_found() {
-    let wrong: [(&str, Entry); 14] = [
+    let wrong: [(&str, Entry); 15] = [
         ("always refuses", |_, _, _| 1 << 8 | 9),
         ("always done, writes nothing", |_, _, _| 0),
         ("a bit above those that carry something", |sheet, column, out| model(sheet, column, out) | 1 << 32),
@@ -104,6 +114,10 @@ fn entries_that_break_a_rule_are_found() {
         ("cuts the column's number", |sheet, column, out| model(sheet, column & 0xffff_ffff, out)),
         ("carries a line with ROOM", |sheet, column, out| match model(sheet, column, out) {
             8 => 1 << 8 | 8,
+            word => word,
+        }),
+        ("carries a line with WHICH", |sheet, column, out| match model(sheet, column, out) {
+            6 => 1 << 8 | 6,
             word => word,
         }),
         ("works column 0 for every column", |sheet, column, out| {

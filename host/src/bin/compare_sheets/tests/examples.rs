@@ -92,7 +92,10 @@ fn a_column_is_quiet_when_fewer_than_two_bases_stand_plainly_at_two_tips() {
             symbols.chars().enumerate().map(|(i, s)| (format!("n{i}"), s.into())).collect();
         let tips: Vec<(&str, &str)> = tips.iter().map(|(name, symbol)| (name.as_str(), symbol.as_str())).collect();
         let tree = tips[1..t].iter().fold(tips[0].0.to_string(), |tree, tip| format!("({tree},{})", tip.0)) + ";";
-        quiet(&one_column(&tips, &[], &tree), 0)
+        let marks = [&[][..], &["0 9 9 9", "1 0 9 9", "1 1 0 9", "0 0 0 0"]]
+            .map(|costs| quiet(&one_column(&tips, costs, &tree), 0));
+        assert_eq!(marks[0], marks[1], "the mark does not look at the costs");
+        marks[0]
     };
     for loud in ["AACC", "UTAA", "UUGG", "AACCGGTT", "CAGACG", "AACCN?-RY"] {
         assert_eq!(mark(loud), 0, "{loud}");
