@@ -194,11 +194,11 @@ pub fn count(table: &Table, column: u64, sets: &mut [u16]) -> Result<u64, Refusa
 /// count of up to 4 digits, the labels of up to 1,023 nodes, and four spaces.
 pub const LONGEST_LINE: usize = 5 + 7 + 1 + 4 + 1_023 + 4;
 
-/// Writes a column's line of the report, without its line end, to the front of `out`; gives the number of bytes written.
+/// Writes a column's line of the report, without its line end, to the front of `out`; gives the number of its bytes.
 ///
 /// The line has the column, its score, the quiet mark, the number of nodes whose set has one state, and the labels in
-/// node order. The sheet is read anew by each call. Given is the first fault in the sheet, then [`Refusal::Which`] where
-/// it has no such column, then [`Refusal::Room`] where `out` is shorter than the line.
+/// node order. Each call reads the sheet anew. It is refused for the first fault in the sheet, then by
+/// [`Refusal::Which`] where there is no such column, then by [`Refusal::Room`] where `out` is shorter than the line.
 ///
 /// ```
 /// use fernijster::{column, Refusal, LONGEST_LINE};
@@ -218,6 +218,6 @@ pub const LONGEST_LINE: usize = 5 + 7 + 1 + 4 + 1_023 + 4;
 /// ```
 #[cfg(exchange)]
 pub fn column(sheet: &[u8], column: u64, out: &mut [u8]) -> Result<usize, Refusal> {
-    // Both lists go in with their own lengths and are borrowed until the function returns, `out` written by nobody else.
+    // Both lists go in with their own lengths and are borrowed until the function returns, `out` for it alone.
     read_column(unsafe { raw::fernijster_column(sheet.as_ptr(), sheet.len(), column, out.as_mut_ptr(), out.len()) })
 }

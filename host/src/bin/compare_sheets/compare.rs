@@ -1,7 +1,8 @@
 //! Compares entries and a program, sheet by sheet, with what the reader and the scorers of this program say.
 //!
 //! Everything lent, and a little behind it, is filled with a pattern before a call; the result word and every byte
-//! afterwards must be as the rules say: written as far as they say when done, and as before beyond that or when refused.
+//! afterwards must be as the rules say: written as far as they say when done, and as before beyond that or when
+//! refused.
 
 use std::panic::{catch_unwind, AssertUnwindSafe};
 
@@ -95,8 +96,8 @@ impl Comparison<'_> {
         Err(format!("the program: expected {}\nbut it printed {}", shown(expected.as_bytes()), shown(&printed)))
     }
 
-    /// Every column that is worked, with room that is exact, one short, one more and none; then columns beyond the last,
-    /// with room and without.
+    /// Every column that is worked, with room that is exact, one short, one more and none; then columns beyond the
+    /// last, with room and without.
     fn sound_calls(&mut self, sheet: &Sheet, most: usize) -> Result<Vec<Call>, String> {
         let mut calls = Vec::new();
         for column in columns(sheet.columns, most, &mut self.random) {

@@ -1,8 +1,8 @@
 //! Compares the sheet entry and the program that prints reports with a reader and a scorer of this program's own.
 //!
-//! Both are written from the paper alone. The sheets are random sound ones, ones at the edges of what a sheet may be,
-//! ones with every byte in the place of a symbol, small ones with every change of one byte, and damaged ones with one to
-//! three damages, so that it is the first fault that is compared. The argument is the path of the program.
+//! Both are written from the paper alone. The sheets are random sound ones, ones with every byte in the place of a
+//! symbol, small ones with every change of one byte, damaged ones with one to three damages, so that it is the first
+//! fault that is compared, and ones at the edges of what a sheet may be. The argument is the path of the program.
 
 // The comparison of the table calls uses more of it.
 #[allow(dead_code)]

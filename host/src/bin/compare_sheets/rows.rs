@@ -1,4 +1,4 @@
-//! A scorer by rows, written from the paper alone. No entry is a number that means something else: a barred one is none.
+//! A scorer by rows, written from the paper alone. A barred entry is none, and no number stands for it.
 //!
 //! A node's set is found from its definition: the states for which the least labelling with the node there costs no
 //! more than the score. No choice of one node is derived from a choice at another.

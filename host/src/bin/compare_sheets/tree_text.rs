@@ -23,7 +23,7 @@ pub fn read(text: &[u8], names: &[&[u8]]) -> Result<Vec<Node>, Reason> {
     Ok(tree.nodes)
 }
 
-/// What a finished tree was: a left one, whose right one begins here, or the whole line's, behind whose `;` this stands.
+/// What a finished tree was, with the text behind it: a left one, whose right one begins there, or the whole line's.
 enum Ended<'a> {
     Left(&'a [u8]),
     Line(&'a [u8]),
