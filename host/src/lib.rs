@@ -1,4 +1,4 @@
-//! Safe Rust over Fernijster's five proved table calls.
+//! Safe Rust over Fernijster's five proved table calls and its sheet entry.
 //!
 //! What a table is and what each call writes is in the paper's words: children and matrix rows in two lists, costs row
 //! by row with the parent's state first, cells as sets of states (bit x stands for state x), handed entries column by
@@ -29,6 +29,9 @@
 //! assert_eq!(states, [1, 3, 3, 3, 3]);
 //! # Ok::<(), fernijster::Refusal>(())
 //! ```
+//!
+//! The sheet entry, `column`, is on text: a sheet's bytes and a column number go in, that column's line of the report
+//! comes out. It is here when its library was there to be linked.
 
 mod raw;
 mod refusal;
@@ -38,6 +41,8 @@ mod refusal;
 #[doc = include_str!("../../docs/CUTTING.md")]
 mod cutting {}
 
+#[cfg(exchange)]
+use refusal::read_column;
 pub use refusal::Refusal;
 use refusal::{read, read_bare};
 
@@ -183,4 +188,36 @@ pub fn hand_up(table: &Table, column: u64, row: &mut [u32], rows: &mut [u32]) ->
 /// Only for unit costs and trees without handed tips; the table's handed entries are not looked at.
 pub fn count(table: &Table, column: u64, sets: &mut [u16]) -> Result<u64, Refusal> {
     read(call!(fernijster_count, table, column, sets.as_mut_ptr(), sets.len()))
+}
+
+/// The bytes that no line of a report needs more of: a column and a score of up to 5 and 7 digits, the quiet mark, a
+/// count of up to 4 digits, the labels of up to 1,023 nodes, and four spaces.
+pub const LONGEST_LINE: usize = 5 + 7 + 1 + 4 + 1_023 + 4;
+
+/// Writes a column's line of the report, without its line end, to the front of `out`; gives the number of its bytes.
+///
+/// The line has the column, its score, the quiet mark, the number of nodes whose set has one state, and the labels in
+/// node order. Each call reads the sheet anew. It is refused for the first fault in the sheet, then by
+/// [`Refusal::Which`] where there is no such column, then by [`Refusal::Room`] where `out` is shorter than the line.
+///
+/// ```
+/// use fernijster::{column, Refusal, LONGEST_LINE};
+///
+/// let sheet = b"names 3\na\nb\nc\ncolumns 2\nAC\nAT\nGT\ncosts 0\ntree 1\n((a,b),c);\n";
+/// let mut out = [0; LONGEST_LINE];
+/// let written = column(sheet, 1, &mut out)?;
+/// assert_eq!(&out[..written], b"1 1 1 5 CTTTT");
+///
+/// assert_eq!(column(sheet, 2, &mut out), Err(Refusal::Which));
+/// assert_eq!(column(sheet, 1, &mut out[..12]), Err(Refusal::Room));
+///
+/// // A J in the cells of b, on line 7.
+/// let sheet = b"names 3\na\nb\nc\ncolumns 2\nAC\nAJ\nGT\ncosts 0\ntree 1\n((a,b),c);\n";
+/// assert_eq!(column(sheet, 0, &mut out), Err(Refusal::Symbol { line: 7 }));
+/// # Ok::<(), Refusal>(())
+/// ```
+#[cfg(exchange)]
+pub fn column(sheet: &[u8], column: u64, out: &mut [u8]) -> Result<usize, Refusal> {
+    // Both lists go in with their own lengths and are borrowed until the function returns, `out` for it alone.
+    read_column(unsafe { raw::fernijster_column(sheet.as_ptr(), sheet.len(), column, out.as_mut_ptr(), out.len()) })
 }

@@ -1,4 +1,4 @@
-//! The library's five functions as they are linked.
+//! The library's functions as they are linked: the five table calls, and the sheet entry.
 //!
 //! A list is a pointer and the number of its elements, a start of `NO_START` is none. The low 8 bits of the result are
 //! the number of the answer; above them stands what it carries.
@@ -103,4 +103,9 @@ extern "C" {
         sets: *mut u16,
         sets_len: usize,
     ) -> u64;
+}
+
+#[cfg(exchange)]
+extern "C" {
+    pub fn fernijster_column(sheet: *const u8, sheet_len: usize, column: u64, out: *mut u8, out_len: usize) -> u64;
 }

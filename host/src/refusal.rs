@@ -7,17 +7,32 @@ use std::fmt;
 #[derive(Clone, Copy, Debug, PartialEq, Eq)]
 pub enum Refusal {
     Size,
-    Shape { node: u64 },
+    Shape {
+        node: u64,
+    },
     Costs,
     Cells,
     Rows,
     Which,
     NotUnit,
     Room,
+    /// The sheet's form is broken on this line; line 0 for a sheet that is too long.
+    Sheet {
+        line: u64,
+    },
+    /// A cell on this line is no symbol.
+    Symbol {
+        line: u64,
+    },
+    /// The tree on this line is wrong.
+    TreeText {
+        line: u64,
+    },
 }
 
 impl Refusal {
-    /// The refusal's number, 1 to 8. A call tests in this order and gives the first that holds.
+    /// The refusal's number, 1 to 11. A table call tests 1 to 8 in this order and gives the first that holds; the sheet
+    /// entry gives the first fault in the sheet, 9 to 11, then 6, then 8.
     pub fn number(self) -> u64 {
         match self {
             Refusal::Size => 1,
@@ -28,6 +43,9 @@ impl Refusal {
             Refusal::Which => 6,
             Refusal::NotUnit => 7,
             Refusal::Room => 8,
+            Refusal::Sheet { .. } => 9,
+            Refusal::Symbol { .. } => 10,
+            Refusal::TreeText { .. } => 11,
         }
     }
 }
@@ -70,6 +88,23 @@ impl fmt::Display for Refusal {
                 "NOT UNIT (7): counting by sets needs costs of 0 on the diagonal and 1 elsewhere, and no handed tips"
             ),
             Refusal::Room => write!(f, "ROOM (8): the output or the row room is shorter than needed"),
+            Refusal::Sheet { line: 0 } => write!(f, "SHEET (9): the sheet is longer than 65,536 bytes"),
+            Refusal::Sheet { line } => write!(
+                f,
+                "SHEET (9): line {line} is not what the sheet's form asks for there: it is missing or has no line end, \
+                 has a byte that is not 32 to 126, is no such count, name, cell line of that length or cost line, or \
+                 stands behind the tree line"
+            ),
+            Refusal::Symbol { line } => write!(
+                f,
+                "SYMBOL (10): a cell on line {line} is none of the symbols A, C, G, T, U, R, Y, S, W, K, M, B, D, H, \
+                 V, N, ? and -"
+            ),
+            Refusal::TreeText { line } => write!(
+                f,
+                "TREE TEXT (11): the tree on line {line} is not a name or a pair in brackets, ended by `;`, with each \
+                 of the sheet's names once, nothing else in it and brackets at most 128 deep"
+            ),
         }
     }
 }
@@ -102,6 +137,22 @@ pub(crate) fn read_bare(word: u64) -> Result<(), Refusal> {
     Ok(())
 }
 
+/// Reads the result of the sheet entry: the number of bytes written, or the refusal.
+///
+/// What it carries has 24 bits, and nothing stands above them. No two results are read alike here either.
+#[cfg(any(exchange, test))]
+pub(crate) fn read_column(word: u64) -> Result<usize, Refusal> {
+    match (word & 0xff, word >> 8) {
+        (0, written @ 0..=0xff_ffff) => Ok(written as usize),
+        (6, 0) => Err(Refusal::Which),
+        (8, 0) => Err(Refusal::Room),
+        (9, line @ 0..=0xff_ffff) => Err(Refusal::Sheet { line }),
+        (10, line @ 0..=0xff_ffff) => Err(Refusal::Symbol { line }),
+        (11, line @ 0..=0xff_ffff) => Err(Refusal::TreeText { line }),
+        _ => panic!("the library answered {word:#x}, which its interface does not have"),
+    }
+}
+
 #[cfg(test)]
 mod tests {
     use super::*;
@@ -118,6 +169,32 @@ mod tests {
         assert_eq!(read(1022 << 8 | 2), Err(Refusal::Shape { node: 1022 }));
         assert_eq!(read(511 << 8), Ok(511));
         assert_eq!(read_bare(0), Ok(()));
+    }
+
+    #[test]
+    fn results_of_the_sheet_entry_are_read_as_they_are_written() {
+        for number in [6, 8, 9, 10, 11] {
+            assert_eq!(read_column(number).unwrap_err().number(), number);
+        }
+        assert_eq!(read_column(13 << 8), Ok(13));
+        assert_eq!(read_column(1_034 << 8 | 9), Err(Refusal::Sheet { line: 1_034 }));
+        assert_eq!(read_column(6 << 8 | 10), Err(Refusal::Symbol { line: 6 }));
+        assert_eq!(read_column(11 << 8 | 11), Err(Refusal::TreeText { line: 11 }));
+    }
+
+    #[test]
+    fn a_word_that_the_sheet_entry_does_not_have_is_no_result() {
+        for word in [1, 5, 7, 12, 255, 1 << 8 | 6, 1 << 8 | 8, 1 << 32, 1 << 32 | 9, 1 << 56 | 10, 1 << 63 | 11] {
+            assert!(std::panic::catch_unwind(|| read_column(word)).is_err(), "{word:#x}");
+        }
+    }
+
+    #[test]
+    fn a_refusal_says_what_is_wrong_and_where() {
+        assert_eq!(Refusal::Sheet { line: 0 }.to_string(), "SHEET (9): the sheet is longer than 65,536 bytes");
+        assert!(Refusal::Sheet { line: 4 }.to_string().starts_with("SHEET (9): line 4 "));
+        assert!(Refusal::Symbol { line: 6 }.to_string().starts_with("SYMBOL (10): a cell on line 6 "));
+        assert!(Refusal::TreeText { line: 11 }.to_string().starts_with("TREE TEXT (11): the tree on line 11 "));
     }
 
     #[test]
