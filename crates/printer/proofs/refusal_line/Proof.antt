@@ -1,3 +1,7 @@
+use Rattle.reports.specs.Reports.{Starts}
+use Rattle.reports.specs.Frame.{refusedLine}
+use Rattle.lines.specs.Fault.{faultNumber, faultLine}
+use mathlib.Core.Path.{sym, subst}
 use native.Mathlib.Omega.{arith}
 use borrow.Author.Needs.{needs}
 use Rattle.printer.proofs.refusal_line.Statement.{statement}
@@ -36,7 +40,7 @@ same-length c = search needs
 
 -- src/lib.rt:146:1
 returns : tie.Need-returns
-returns c = search needs
+returns c = subst (λ f. Starts (refusedLine (faultNumber f) (faultLine f)) (c .before .before .before .before .before .before .before .before .args .line .now) (c .before .before .refused-line .last .1 .1 .0) (c .before .before .refused-line .result)) (sym (c .before .before .before .before .before .fault .given .1)) (c .before .before .refused-line .ensures)
 
 -- src/lib.rt:146:1
 same-length-2 : tie.Need-same-length-2
@@ -44,7 +48,7 @@ same-length-2 c = search needs
 
 -- src/lib.rt:146:1
 returns-2 : tie.Need-returns-2
-returns-2 c = search needs
+returns-2 c = subst (λ f. Starts (refusedLine (faultNumber f) (faultLine f)) (c .before .before .before .before .before .before .before .before .args .line .now) (c .before .before .refused-line2 .last .1 .1 .0) (c .before .before .refused-line2 .result)) (sym (c .before .before .before .before .before .fault2 .given .1)) (c .before .before .refused-line2 .ensures)
 
 -- src/lib.rt:146:1
 same-length-3 : tie.Need-same-length-3
@@ -52,7 +56,7 @@ same-length-3 c = search needs
 
 -- src/lib.rt:146:1
 returns-3 : tie.Need-returns-3
-returns-3 c = search needs
+returns-3 c = subst (λ f. Starts (refusedLine (faultNumber f) (faultLine f)) (c .before .before .before .before .before .before .before .before .args .line .now) (c .before .before .refused-line3 .last .1 .1 .0) (c .before .before .refused-line3 .result)) (sym (c .before .before .before .before .before .fault3 .given .1)) (c .before .before .refused-line3 .ensures)
 
 pub refusal-line-spec : {M : Type 1} → statement M
 refusal-line-spec =
