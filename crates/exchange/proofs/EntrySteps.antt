@@ -2,11 +2,11 @@
 -- Assumes nothing.
 use mathlib.Core.List.{List, [], _∷_, _++_, append-assoc}
 use mathlib.Core.Path.{_≡_, refl, ap, ap₂, sym, _∙_, subst}
-use Prim.Native.Nat.{ℕ, suc, _+_, _*_, _-_, _/_, _%_, _<_, _≤_}
+use Prim.Native.Nat.{ℕ, suc, _+_, _*_, _-_, _<_, _≤_}
 use native.Mathlib.Omega.{arith}
 use borrow.Author.Tests.{lt-ltb, le-ltb}
 use lib.ListN.{length, getD, set, take, drop, length-append, length-drop}
-use lib.Seq.{sets, sets-eq, length-sets, take-append-seam, drop-cons, take-suc, set-append-seam, length-take-le, ext-getD}
+use lib.Seq.{take-append-seam, drop-cons, take-suc, set-append-seam, length-take-le}
 use Rattle.parsimony.proofs.Order.{pick-true, pick-false}
 use Rattle.costs.specs.CostRules.{Flat, TableRules}
 use Rattle.exchange.specs.Entry.{done, refused, faulted, given, asked, outcome, codeOf, leaves, Entered}
@@ -16,28 +16,15 @@ use Rattle.newick.specs.Nodes.{lefts, rights}
 use Rattle.newick.specs.Vine.{size}
 use Rattle.newick.proofs.PairSteps.{lefts-long, rights-long}
 use Rattle.printer.specs.SheetLine.{onJudged, lineIn, Ready, PrintedOf}
+use Rattle.printer.proofs.ReadLaws.{flat-same, first-put, read-sound}
 use Rattle.sheet.specs.Gives.{Holds, GivesFor, Gives}
 use Rattle.sheet.specs.Judge.{Contents, sound, faulty, judge}
-use Rattle.sheet.specs.Table.{flat}
 use Rattle.sheet.specs.declared.Read.{Read}
 use Rattle.sheet.specs.declared.Read.the-variants.{Sound, Faulty}
 use Rattle.sheet.specs.declared.Sheet.{Sheet}
 use Rattle.sheet.proofs.SoundSheet.{sound-from}
-use Rattle.sheet.proofs.TableRules.{flat-is, sheet-legal}
+use Rattle.sheet.proofs.TableRules.{sheet-legal}
 use Rattle.sections.proofs.SheetLaws.{sheet-read}
-
--- a table in one list is that of its rows
-flat-same : (table : List (List ℕ)) (costs : List ℕ) → TableRules table → Flat table costs → costs ≡ flat table
-flat-same table costs rules is =
-    let other = flat-is table rules in
-    let p = is .size in
-    let q = other .size in
-    ext-getD 0 costs (flat table) (omega arith)
-    (λ i h. let x = i / 4 in let y = i % 4 in
-    let split : x * 4 + y ≡ i = omega arith in
-    let hx : x < 4 = omega arith in
-    let hy : y < 4 = omega arith in
-    ap (λ k. getD costs k 0) (sym split) ∙ is .entry x y hx hy ∙ sym (other .entry x y hx hy) ∙ ap (λ k. getD (flat table) k 0) split)
 
 module _ (sheet : List ℕ) (s : Sheet) (table : List (List ℕ)) (left right : List ℕ) (j : ℕ)
     (held : Held sheet s table left right j) where
@@ -176,9 +163,9 @@ read-held sheet s answer table' left right left' right' j ll lr gives is inside 
       cells = holds .cells;
       nodes = holds .nodes;
       priced = holds .priced;
-      lefts = first (s .nodes) left left' (lefts vine 0) (holds .nodes ∙ sym (lefts-long vine 0)) (holds .lefts)
+      lefts = first-put (s .nodes) left left' (lefts vine 0) (holds .nodes ∙ sym (lefts-long vine 0)) (holds .lefts)
           (let l = lefts-long vine 0 in omega arith);
-      rights = first (s .nodes) right right' (rights vine 0) (holds .nodes ∙ sym (rights-long vine 0)) (holds .rights)
+      rights = first-put (s .nodes) right right' (rights vine 0) (holds .nodes ∙ sym (rights-long vine 0)) (holds .rights)
           (let l = rights-long vine 0 in omega arith);
       inside = omega arith;
     }
@@ -189,20 +176,10 @@ read-held sheet s answer table' left right left' right' j ll lr gives is inside 
         let long = lefts-long (has .vine) 0 in
         omega arith
 
-    first : (n : ℕ) (l l' vs : List ℕ) → n ≡ length vs → l' ≡ sets l 0 vs → length vs ≤ length l → take n l' ≡ vs
-    first n l l' vs e is fits =
-        ap₂ take e (is ∙ sets-eq vs l 0 (omega arith)) ∙ take-append-seam vs (drop (0 + length vs) l)
-
 -- the fault that the reader answers with, and its line
 pub read-fault : (sheet : List ℕ) (f : Fault) (answer : Read) (table' : List (List ℕ)) (left right left' right' : List ℕ)
     → Gives (judge sheet) answer table' left right left' right' → answer ≡ Faulty f → judge sheet ≡ faulty f
 read-fault sheet f answer table' left right left' right' gives is =
-    subst (λ a. GivesFor (judge sheet) a table' left right left' right') is (gives .gives)
-
-pub read-sound : (sheet : List ℕ) (s : Sheet) (answer : Read) (table' : List (List ℕ)) (left right left' right' : List ℕ)
-    → Gives (judge sheet) answer table' left right left' right' → answer ≡ Sound s
-    → Holds (judge sheet) s table' left right left' right'
-read-sound sheet s answer table' left right left' right' gives is =
     subst (λ a. GivesFor (judge sheet) a table' left right left' right') is (gives .gives)
 
 -- the output keeps its length
@@ -241,15 +218,6 @@ module _ (line out : List ℕ) (n : ℕ) (hl : n ≤ length line) (ho : n ≤ le
 
 pub copied-none : (line out : List ℕ) (n : ℕ) → Copied line out n 0 out
 copied-none line out n = record { few = omega arith; is = refl }
-
--- the tree's lists keep their length
-pub read-long : (sheet : List ℕ) (s : Sheet) (answer : Read) (table' : List (List ℕ)) (left right left' right' : List ℕ)
-    → Gives (judge sheet) answer table' left right left' right' → answer ≡ Sound s
-    → (length left' ≡ length left) × (length right' ≡ length right)
-read-long sheet s answer table' left right left' right' gives is =
-    let holds = read-sound sheet s answer table' left right left' right' gives is in
-    let vine = holds .contents .vine in
-    (ap length (holds .lefts) ∙ length-sets left 0 (lefts vine 0), ap length (holds .rights) ∙ length-sets right 0 (rights vine 0))
 
 -- no such column
 pub read-which : (sheet : List ℕ) (s : Sheet) (answer : Read) (table' : List (List ℕ)) (left right left' right' : List ℕ)

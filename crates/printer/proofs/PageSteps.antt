@@ -36,7 +36,7 @@ module _ (sheet : List ℕ) (s : Sheet) (costs left right : List ℕ) (j : ℕ) 
         put = λ has is. let text = printed .printed has is .text in
             let same : take (n - 0) (drop 0 line') ≡ lineIn sheet has j =
             part-first line' n ∙ ap₂ take (text .long) (text .bytes)
-                ∙ take-append-seam (lineIn sheet has j) (drop (length (lineIn sheet has j)) line) in
+            ∙ take-append-seam (lineIn sheet has j) (drop (length (lineIn sheet has j)) line) in
             put-then (subst (λ l. Put l at page page₁ next) same one) two;
         score = λ has is. printed .printed has is .score;
       }
@@ -169,3 +169,17 @@ room-kept left right cells states sets rows line cells' states' sets' rows' line
 -- a byte that is put ends within the page
 pub byte-inside : (page page₁ : List ℕ) (next end : ℕ) → next < length page → Put (10 ∷ []) next page page₁ end → end ≤ length page₁
 byte-inside page page₁ next end low put = let same = put-long put in let e = put .end in omega arith
+
+module _ (sheet : List ℕ) (s : Sheet) (costs left right : List ℕ) (ready : ReadyFrom sheet s costs left right 0) where
+  -- a sheet that may be printed may be so from any of its columns on
+  pub from-next : (n : ℕ) → n ≤ s .columns → ReadyFrom sheet s costs left right n
+  from-next n low = let c = ready .read .columns in record { has = ready .has; read = ready .read; low = omega arith }
+
+  -- a page has a column more, and none that there is not
+  pub page-next : (first total : ℕ) (page : List ℕ) (next size all : ℕ) (page' : List ℕ)
+      → PageOf sheet first total page next size all page' → first < s .columns → (first < next) × (next ≤ s .columns)
+  page-next first total page next size all page' printed low =
+      let c = ready .read .columns in
+      let some = printed .some (ready .has) (ready .read .is) (omega arith) in
+      let inside = printed .lines (ready .has) (ready .read .is) .inside in
+      (omega arith, omega arith)

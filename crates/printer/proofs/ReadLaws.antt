@@ -14,7 +14,7 @@ use Rattle.printer.specs.Page.{ReadyFrom}
 use Rattle.printer.specs.SheetLine.{IsRead}
 use Rattle.sections.proofs.SheetLaws.{sheet-read}
 use Rattle.sheet.specs.Gives.{Holds, GivesFor, Gives}
-use Rattle.sheet.specs.Judge.{Contents, sound, judge}
+use Rattle.sheet.specs.Judge.{judge}
 use Rattle.sheet.specs.Table.{flat}
 use Rattle.sheet.specs.declared.Read.{Read}
 use Rattle.sheet.specs.declared.Read.the-variants.{Sound}
@@ -23,7 +23,7 @@ use Rattle.sheet.proofs.SoundSheet.{sound-from}
 use Rattle.sheet.proofs.TableRules.{flat-is, sheet-legal}
 
 -- a table in one list is that of its rows
-flat-same : (table : List (List ℕ)) (costs : List ℕ) → TableRules table → Flat table costs → costs ≡ flat table
+pub flat-same : (table : List (List ℕ)) (costs : List ℕ) → TableRules table → Flat table costs → costs ≡ flat table
 flat-same table costs rules is =
     let other = flat-is table rules in
     let p = is .size in
@@ -40,8 +40,8 @@ flat-same table costs rules is =
     ∙ ap (λ k. getD (flat table) k 0) split)
 
 -- the first entries of a list are those that were put there
-first : (n : ℕ) (l l' vs : List ℕ) → n ≡ length vs → l' ≡ sets l 0 vs → length vs ≤ length l → take n l' ≡ vs
-first n l l' vs e is fits =
+pub first-put : (n : ℕ) (l l' vs : List ℕ) → n ≡ length vs → l' ≡ sets l 0 vs → length vs ≤ length l → take n l' ≡ vs
+first-put n l l' vs e is fits =
     ap₂ take e (is ∙ sets-eq vs l 0 (omega arith)) ∙ take-append-seam vs (drop (0 + length vs) l)
 
 module _ (sheet : List ℕ) (s : Sheet) (answer : Read) (table' : List (List ℕ)) (left right left' right' : List ℕ)
@@ -77,8 +77,8 @@ module _ (sheet : List ℕ) (s : Sheet) (answer : Read) (table' : List (List ℕ
         cells = holds .cells;
         nodes = holds .nodes;
         priced = flat-same (has .costs) costs rules (subst (λ t. Flat t costs) (holds .priced) flatly);
-        lefts = first (s .nodes) left left' (lefts vine 0) (holds .nodes ∙ sym long-left) (holds .lefts) (omega arith);
-        rights = first (s .nodes) right right' (rights vine 0) (holds .nodes ∙ sym long-right) (holds .rights) (omega arith);
+        lefts = first-put (s .nodes) left left' (lefts vine 0) (holds .nodes ∙ sym long-left) (holds .lefts) (omega arith);
+        rights = first-put (s .nodes) right right' (rights vine 0) (holds .nodes ∙ sym long-right) (holds .rights) (omega arith);
       }
 
   -- so it may be printed from its first column on

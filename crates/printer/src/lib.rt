@@ -93,7 +93,19 @@ fn put_line(
     ensures { λ r. ⌜ LineOf (now (sheet .entry)) j (now (page .entry)) at (now (page .exit)) (r .length) (r .score)
         × (length (now (cells .exit)) ≡ 512) × (r .length ≤ length (now (page .exit))) ⌝ }
 {
-    let printed = sheet_line(sheet, s, costs, left, right, j, cells, states, sets, rows, line);
+    let printed = sheet_line(
+        sheet,
+        s,
+        costs,
+        left,
+        right,
+        j,
+        cells,
+        states,
+        sets,
+        rows,
+        line,
+    );
     let n = printed.length;
     let text = &line[..];
     let next = put_text(&text[0..n], page, at);
@@ -125,21 +137,44 @@ pub fn print_page(
     requires { ⌜ Room (now left) (now right) (now cells) (now states) (now sets) (now rows) (now line) ⌝ }
     requires { ⌜ (length (now line) ≡ 1056) × (1057 ≤ length (now page)) × (total ≤ first * 4294967295) ⌝ }
     ensures { λ r. ⌜ PageOf (now (sheet .entry)) first total (now (page .entry)) (r .next) (r .size) (r .total)
-        (now (page .exit)) × (length (now (cells .exit)) ≡ 512) × (r .total ≤ r .next * 4294967295) ⌝ }
+        (now (page .exit)) × (length (now (cells .exit)) ≡ 512) × (r .total ≤ r .next * 4294967295)
+        × (r .size ≤ length (now (page .exit))) ⌝ }
 {
     let mut next = first;
     let mut size = 0;
     let mut all = total;
     while next < s.columns {
         if page.len() < size + MOST_LINE + 1 {
-            return Page { next, size, total: all };
+            return Page {
+                next,
+                size,
+                total: all,
+            };
         }
-        let put = put_line(sheet, s, costs, left, right, next, cells, states, sets, rows, line, page, size);
+        let put = put_line(
+            sheet,
+            s,
+            costs,
+            left,
+            right,
+            next,
+            cells,
+            states,
+            sets,
+            rows,
+            line,
+            page,
+            size,
+        );
         size = put.length;
         all += wide(put.score);
         next += 1;
     }
-    Page { next, size, total: all }
+    Page {
+        next,
+        size,
+        total: all,
+    }
 }
 
 // Writes the line of a refused sheet, and answers its length.

@@ -83,9 +83,7 @@ fn write_columns(sheet: &[u8], s: Sheet, costs: &[u16], left: &[u16], right: &[u
             &mut page,
         );
         let size = printed.size;
-        if size <= PAGE_ROOM {
-            io::write_all(STANDARD_OUTPUT, &page[0..size]);
-        }
+        io::write_all(STANDARD_OUTPUT, &page[0..size]);
         next = printed.next;
         total = printed.total;
     }

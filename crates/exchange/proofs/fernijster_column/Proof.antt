@@ -1,7 +1,8 @@
 -- `exchange::fernijster_column` meets its contract, case by case.
 -- Assumes nothing.
 use mathlib.Core.Path.{refl, sym}
-use Rattle.exchange.proofs.EntrySteps.{entry-fault, read-fault, read-held, read-long, read-which}
+use Rattle.exchange.proofs.EntrySteps.{entry-fault, read-fault, read-held, read-which}
+use Rattle.printer.proofs.ReadLaws.{read-long}
 use Rattle.sheet.proofs.FaultLine.{judge-line}
 use native.Mathlib.Omega.{arith}
 use borrow.Author.Needs.{needs}

@@ -29,7 +29,7 @@ same-length : tie.Need-same-length
 same-length c = search needs
 
 returns : tie.Need-returns
-returns c = printed-line _ _ _ _ _ _ (c .before .before .before .before .before .sheet-line .ensures)
+returns c = printed-line _ _ _ _ _ _ (c .before .before .before .before .before .sheet-line .ensures .0)
 
 pub print-line-spec : {M : Type 1} → statement M
 print-line-spec =

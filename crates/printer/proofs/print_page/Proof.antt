@@ -2,10 +2,10 @@
 -- measure is the number of columns left.
 -- Assumes nothing.
 use Prim.Native.Nat.{_-_}
+use mathlib.Core.Path.{_≡_, refl, _∙_}
 use Rattle.printer.proofs.PrintSteps.{ready-nodes}
 use Rattle.printer.proofs.PageSteps.{Turn, turn-none, turn-ready, turn-more, turn-full, turn-end, room-kept}
 use lib.ListN.{length}
-use mathlib.Core.Path.{_≡_, refl, _∙_}
 use native.Mathlib.Omega.{arith}
 use borrow.Author.Needs.{needs}
 use Rattle.printer.proofs.print_page.Statement.{statement}
@@ -42,7 +42,7 @@ same-length-5 : tie.Need-same-length-5 Inv-loop μ-loop
 same-length-5 c = search needs
 
 returns : tie.Need-returns Inv-loop μ-loop
-returns c = (turn-full _ _ _ _ _ _ _ _ _ _ _ _ _ _ _ _ _ (c .before .before .before .before .before .before .before .before .before .before .before .before .before .pre .0) (c .before .before .before .loop .inv .0) (c .before .before .before .before .before .before .before .before .before .before .before .before .before .pre .1 .1 .1) (c .if2 .taken), (c .before .before .before .loop .inv .0) .room .cellsLong, (c .before .before .before .loop .inv .0) .few)
+returns c = (turn-full _ _ _ _ _ _ _ _ _ _ _ _ _ _ _ _ _ (c .before .before .before .before .before .before .before .before .before .before .before .before .before .pre .0) (c .before .before .before .loop .inv .0) (c .before .before .before .before .before .before .before .before .before .before .before .before .before .pre .1 .1 .1) (c .if2 .taken), (c .before .before .before .loop .inv .0) .room .cellsLong, (c .before .before .before .loop .inv .0) .few, (c .before .before .before .loop .inv .0) .fits)
 
 put-line-requires : tie.Need-put-line-requires Inv-loop μ-loop
 put-line-requires c κs = (turn-ready _ _ _ _ _ _ _ _ _ _ _ _ _ _ _ _ _ (c .before .before .before .before .before .before .before .before .before .before .before .before .before .before .before .before .before .before .before .pre .0) (c .before .before .before .before .before .before .before .before .before .loop .inv .0) (c .before .before .before .before .before .before .before .if1 .taken), ((c .before .before .before .before .before .before .before .before .before .loop .inv .0) .room, ((c .before .before .before .before .before .before .before .before .before .loop .inv .0) .long, let f = c .before .before .before .before .before .before .if2 .left in omega arith)))
@@ -78,7 +78,7 @@ same-length-10 : tie.Need-same-length-10 Inv-loop μ-loop
 same-length-10 c = search needs
 
 returns-2 : tie.Need-returns-2 Inv-loop μ-loop
-returns-2 c = (turn-end _ _ _ _ _ _ _ _ _ _ _ _ _ _ _ _ _ (c .before .before .before .before .before .before .before .before .before .before .before .before .pre .0) (c .before .before .loop .inv .0) (c .if1 .left), (c .before .before .loop .inv .0) .room .cellsLong, (c .before .before .loop .inv .0) .few)
+returns-2 c = (turn-end _ _ _ _ _ _ _ _ _ _ _ _ _ _ _ _ _ (c .before .before .before .before .before .before .before .before .before .before .before .before .pre .0) (c .before .before .loop .inv .0) (c .if1 .left), (c .before .before .loop .inv .0) .room .cellsLong, (c .before .before .loop .inv .0) .few, (c .before .before .loop .inv .0) .fits)
 
 pub print-page-spec : {M : Type 1} → statement M
 print-page-spec =

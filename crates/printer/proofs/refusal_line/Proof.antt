@@ -1,60 +1,46 @@
+-- `printer::refusal_line` meets its contract, case by case.
+-- Assumes nothing.
 use Rattle.reports.specs.Reports.{Starts}
 use Rattle.reports.specs.Frame.{refusedLine}
 use Rattle.lines.specs.Fault.{faultNumber, faultLine}
 use mathlib.Core.Path.{sym, subst}
-use native.Mathlib.Omega.{arith}
 use borrow.Author.Needs.{needs}
 use Rattle.printer.proofs.refusal_line.Statement.{statement}
 use Rattle.printer.proofs.refusal_line.Tie as tie
-use Rattle.printer.proofs.refusal_line.Reads as reads
-use Rattle.printer.proofs.refusal_line.Lts as lts
-use Rattle.reports.proofs.frame.refused_line.Reads as refused-line-reads
 
--- src/lib.rt:151:22
 enum-known-fault : tie.Need-enum-known-fault
 enum-known-fault c = search needs
 
--- src/lib.rt:151:29
 refused-line-requires : tie.Need-refused-line-requires
 refused-line-requires c κs = search needs
 
--- src/lib.rt:152:23
 enum-known-fault-2 : tie.Need-enum-known-fault-2
 enum-known-fault-2 c = search needs
 
--- src/lib.rt:152:30
 refused-line-requires-2 : tie.Need-refused-line-requires-2
 refused-line-requires-2 c κs = search needs
 
--- src/lib.rt:153:25
 enum-known-fault-3 : tie.Need-enum-known-fault-3
 enum-known-fault-3 c = search needs
 
--- src/lib.rt:153:32
 refused-line-requires-3 : tie.Need-refused-line-requires-3
 refused-line-requires-3 c κs = search needs
 
--- src/lib.rt:146:1
 same-length : tie.Need-same-length
 same-length c = search needs
 
--- src/lib.rt:146:1
 returns : tie.Need-returns
 returns c = subst (λ f. Starts (refusedLine (faultNumber f) (faultLine f)) (c .before .before .before .before .before .before .before .before .args .line .now) (c .before .before .refused-line .last .1 .1 .0) (c .before .before .refused-line .result)) (sym (c .before .before .before .before .before .fault .given .1)) (c .before .before .refused-line .ensures)
 
--- src/lib.rt:146:1
 same-length-2 : tie.Need-same-length-2
 same-length-2 c = search needs
 
--- src/lib.rt:146:1
 returns-2 : tie.Need-returns-2
 returns-2 c = subst (λ f. Starts (refusedLine (faultNumber f) (faultLine f)) (c .before .before .before .before .before .before .before .before .args .line .now) (c .before .before .refused-line2 .last .1 .1 .0) (c .before .before .refused-line2 .result)) (sym (c .before .before .before .before .before .fault2 .given .1)) (c .before .before .refused-line2 .ensures)
 
--- src/lib.rt:146:1
 same-length-3 : tie.Need-same-length-3
 same-length-3 c = search needs
 
--- src/lib.rt:146:1
 returns-3 : tie.Need-returns-3
 returns-3 c = subst (λ f. Starts (refusedLine (faultNumber f) (faultLine f)) (c .before .before .before .before .before .before .before .before .args .line .now) (c .before .before .refused-line3 .last .1 .1 .0) (c .before .before .refused-line3 .result)) (sym (c .before .before .before .before .before .fault3 .given .1)) (c .before .before .refused-line3 .ensures)
 

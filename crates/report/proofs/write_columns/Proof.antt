@@ -1,81 +1,60 @@
+-- `report::write_columns` meets its contract. The invariant: the rooms keep their length, and next is within the
+-- columns. The measure is the number of columns left.
+-- Assumes nothing.
+use Rattle.printer.proofs.PageSteps.{from-next, page-next}
+use lib.ListN.{length}
+use Prim.Native.Nat.{_≤_, _-_, _*_}
+use mathlib.Core.Path.{_≡_, refl, sym, _∙_}
 use native.Mathlib.Omega.{arith}
 use borrow.Author.Needs.{needs}
 use Rattle.report.proofs.write_columns.Statement.{statement}
 use Rattle.report.proofs.write_columns.Tie as tie
-use Rattle.report.proofs.write_columns.Reads as reads
-use Rattle.report.proofs.write_columns.Lts as lts
-use Rattle.io.proofs.write_all.Reads as write-all-reads
-use Rattle.printer.proofs.print_page.Reads as print-page-reads
 
 abbrev Inv-loop : tie.InvT-loop
-Inv-loop sheet s costs left right cells₀ states₀ sets₀ rows₀ line₀ page₀ next₀ total₀ cells states sets rows line page next total =
-    ?
+Inv-loop sheet s costs left right cells₀ states₀ sets₀ rows₀ line₀ page₀ next₀ total₀ cells states sets rows line page next total = (next ≤ s .columns) × (total ≤ next * 4294967295) × (length cells ≡ 512) × (length states ≡ 1023) × (length sets ≡ 1023) × (length rows ≡ 4092) × (length line ≡ 1056) × (length page ≡ 65536)
 
 abbrev μ-loop : tie.MeasureT-loop
-μ-loop sheet s costs left right cells₀ states₀ sets₀ rows₀ line₀ page₀ next₀ total₀ cells states sets rows line page next total =
-    ?
+μ-loop sheet s costs left right cells₀ states₀ sets₀ rows₀ line₀ page₀ next₀ total₀ cells states sets rows line page next total = s .columns - next
 
--- src/main.rt:69:5
 loop-holds : tie.Need-loop-holds Inv-loop μ-loop
-loop-holds c = search needs
+loop-holds c = (omega arith, omega arith, refl, refl, refl, refl, refl, refl)
 
--- src/main.rt:79:13
 slice-aggregate-print-page : tie.Need-slice-aggregate-print-page Inv-loop μ-loop
-slice-aggregate-print-page c = search needs
+slice-aggregate-print-page c = sym (c .before .before .before .before .loop .inv .3)
 
--- src/main.rt:80:13
 slice-aggregate-print-page-2 : tie.Need-slice-aggregate-print-page-2 Inv-loop μ-loop
-slice-aggregate-print-page-2 c = search needs
+slice-aggregate-print-page-2 c = sym (c .before .before .before .before .before .loop .inv .4)
 
--- src/main.rt:81:13
 slice-aggregate-print-page-3 : tie.Need-slice-aggregate-print-page-3 Inv-loop μ-loop
-slice-aggregate-print-page-3 c = search needs
+slice-aggregate-print-page-3 c = sym (c .before .before .before .before .before .before .loop .inv .5)
 
--- src/main.rt:82:13
 slice-aggregate-print-page-4 : tie.Need-slice-aggregate-print-page-4 Inv-loop μ-loop
-slice-aggregate-print-page-4 c = search needs
+slice-aggregate-print-page-4 c = sym (c .before .before .before .before .before .before .before .loop .inv .6)
 
--- src/main.rt:83:13
 slice-aggregate-print-page-5 : tie.Need-slice-aggregate-print-page-5 Inv-loop μ-loop
-slice-aggregate-print-page-5 c = search needs
+slice-aggregate-print-page-5 c = sym (c .before .before .before .before .before .before .before .before .loop .inv .7)
 
--- src/main.rt:70:13
 print-page-requires : tie.Need-print-page-requires Inv-loop μ-loop
-print-page-requires c κs = search needs
+print-page-requires c κs = (from-next _ _ _ _ _ (c .before .before .before .before .before .before .before .before .before .before .before .before .before .pre .0) _ (c .before .before .before .before .before .before .before .before .loop .inv .0), (record { leftLong = c .before .before .before .before .before .before .before .before .before .before .before .before .before .pre .1 .0; rightLong = c .before .before .before .before .before .before .before .before .before .before .before .before .before .pre .1 .1; cellsLong = (c .before .before .before .before .before .before .before .before .loop .inv .2); statesRoom = (let e = (c .before .before .before .before .before .before .before .before .loop .inv .3) in omega arith); setsRoom = (let e = (c .before .before .before .before .before .before .before .before .loop .inv .4) in omega arith); rowsRoom = (let e = (c .before .before .before .before .before .before .before .before .loop .inv .5) in omega arith); lineRoom = (let e = (c .before .before .before .before .before .before .before .before .loop .inv .6) in omega arith) }, ((c .before .before .before .before .before .before .before .before .loop .inv .6), (let e = (c .before .before .before .before .before .before .before .before .loop .inv .7) in omega arith), (c .before .before .before .before .before .before .before .before .loop .inv .1))))
 
--- src/main.rt:87:44
 sub-write-all : tie.Need-sub-write-all Inv-loop μ-loop
 sub-write-all c = search needs
 
--- src/main.rt:87:44
 part-write-all-start : tie.Need-part-write-all-start Inv-loop μ-loop
 part-write-all-start c = search needs
 
--- src/main.rt:87:44
 part-write-all-end : tie.Need-part-write-all-end Inv-loop μ-loop
-part-write-all-end c = search needs
+part-write-all-end c = c .before .before .before .before .before .before .print-page .ensures .3
 
--- src/main.rt:87:13
 write-all-requires : tie.Need-write-all-requires Inv-loop μ-loop
 write-all-requires c κs = search needs
 
--- src/main.rt:69:5
 loop-less : tie.Need-loop-less Inv-loop μ-loop
-loop-less c = search needs
+loop-less c = let p = page-next _ _ _ _ _ (c .before .before .before .before .before .before .before .before .before .before .before .before .before .before .before .before .before .before .before .before .before .before .pre .0) _ _ _ _ _ _ _ (c .before .before .before .before .before .before .before .before .print-page .ensures .0) (c .before .before .before .before .before .before .before .before .before .before .before .before .before .before .before .if1 .taken) in let a = p .0 in let b = p .1 in omega arith
 
--- src/main.rt:69:5
 loop-again : tie.Need-loop-again Inv-loop μ-loop
-loop-again c = search needs
+loop-again c = ((page-next _ _ _ _ _ (c .before .before .before .before .before .before .before .before .before .before .before .before .before .before .before .before .before .before .before .before .before .before .pre .0) _ _ _ _ _ _ _ (c .before .before .before .before .before .before .before .before .print-page .ensures .0) (c .before .before .before .before .before .before .before .before .before .before .before .before .before .before .before .if1 .taken)) .1, c .before .before .before .before .before .before .before .before .print-page .ensures .2, c .before .before .before .before .before .before .before .before .print-page .ensures .1, (c .before .before .before .before .before .before .before .before .print-page .kept .1 .1 .1 .1 .1 .1 .1 .1 .0) ∙ (c .before .before .before .before .before .before .before .before .before .before .before .before .before .before .before .before .before .loop .inv .3), (c .before .before .before .before .before .before .before .before .print-page .kept .1 .1 .1 .1 .1 .1 .1 .1 .1 .0) ∙ (c .before .before .before .before .before .before .before .before .before .before .before .before .before .before .before .before .before .loop .inv .4), (c .before .before .before .before .before .before .before .before .print-page .kept .1 .1 .1 .1 .1 .1 .1 .1 .1 .1 .0) ∙ (c .before .before .before .before .before .before .before .before .before .before .before .before .before .before .before .before .before .loop .inv .5), (c .before .before .before .before .before .before .before .before .print-page .kept .1 .1 .1 .1 .1 .1 .1 .1 .1 .1 .1 .0) ∙ (c .before .before .before .before .before .before .before .before .before .before .before .before .before .before .before .before .before .loop .inv .6), (c .before .before .before .before .before .before .before .before .print-page .kept .1 .1 .1 .1 .1 .1 .1 .1 .1 .1 .1 .1 .0) ∙ (c .before .before .before .before .before .before .before .before .before .before .before .before .before .before .before .before .before .loop .inv .7))
 
--- src/main.rt:69:5
-loop-less-2 : tie.Need-loop-less-2 Inv-loop μ-loop
-loop-less-2 c = search needs
-
--- src/main.rt:69:5
-loop-again-2 : tie.Need-loop-again-2 Inv-loop μ-loop
-loop-again-2 c = search needs
-
--- src/main.rt:57:1
 returns : tie.Need-returns Inv-loop μ-loop
 returns c = search needs
 
@@ -98,6 +77,4 @@ write-columns-spec =
     write-all-requires
     loop-less
     loop-again
-    loop-less-2
-    loop-again-2
     returns)
