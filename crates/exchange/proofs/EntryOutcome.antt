@@ -1,0 +1,33 @@
+-- No second outcome meets the promise of the entry, and its code loses nothing.
+-- Assumes nothing.
+use mathlib.Core.List.{List}
+use mathlib.Core.Path.{_≡_, sym, _∙_}
+use Prim.Native.Nat.{ℕ, _/_, _%_, _<_}
+use native.Mathlib.Omega.{arith}
+use lib.ListN.{length}
+use Rattle.exchange.specs.Entry.{Outcome, done, refused, codeOf, Entered}
+
+-- two outcomes of one call are the same: the code, and every byte lent
+pub entry-outcome : (sheet : List ℕ) (j : ℕ) (out : List ℕ) (a b : ℕ) (out₁ out₂ : List ℕ) → Entered sheet j out a out₁
+    → Entered sheet j out b out₂ → (a ≡ b) × (out₁ ≡ out₂)
+entry-outcome sheet j out a b out₁ out₂ f g = (f .answer ∙ sym (g .answer), f .output ∙ sym (g .output))
+
+-- the number of an outcome, and what stands above it
+abbrev pub numberOf : Outcome → ℕ
+numberOf (done line) = 0
+numberOf (refused number carried) = number
+
+abbrev pub carriedOf : Outcome → ℕ
+carriedOf (done line) = length line
+carriedOf (refused number carried) = carried
+
+-- both are read back from the code, where the number is below 256
+pub code-number : (o : Outcome) → numberOf o < 256 → codeOf o % 256 ≡ numberOf o
+unfolding codeOf
+code-number (done line) h = omega arith
+code-number (refused number carried) h = omega arith
+
+pub code-carried : (o : Outcome) → numberOf o < 256 → codeOf o / 256 ≡ carriedOf o
+unfolding codeOf
+code-carried (done line) h = omega arith
+code-carried (refused number carried) h = omega arith
