@@ -7,3 +7,4 @@ pub mod QuietLaws
 pub mod ReportLaws
 pub mod Outcomes
 pub mod Cases
+pub mod Examples
