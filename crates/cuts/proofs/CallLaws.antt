@@ -31,7 +31,8 @@ use Rattle.answers.specs.Answers as Answers
 use Rattle.cuts.specs.Call as Call
 
 -- where every rule of a call holds, its answer is done
-given-done : (rules : List (Type 0)) (left right : List ℕ) (a : Answer) → All rules → Answers.Given rules left right a → a ≡ Done
+given-done : (rules : List (Type 0)) (left right : List ℕ) (a : Answer) → All rules → Answers.Given rules left right
+    a → a ≡ Done
 given-done rules left right Done all g = refl
 given-done rules left right (Refused r) all g = absurd (all-not-first rules _ all (g .given .0))
 
@@ -44,7 +45,31 @@ rules-answer I r =
     let r4 = r .1 .1 .1 .0 in
     let r5 = r .1 .1 .1 .1 .0 in
     record {
-      score = λ scores rows room a. given-done _ (I .left) (I .right) a (r1, (r2, (r3, (r4, (r5, (tt, (tt, (room, tt))))))));
+      score = λ scores rows room a. given-done _ (I .left) (I .right) a (
+        r1,
+        (
+          r2,
+          (
+            r3,
+            (
+              r4,
+              (
+                r5,
+                (
+                  tt,
+                  (
+                    tt,
+                    (
+                      room,
+                      tt,
+                    ),
+                  ),
+                ),
+              ),
+            ),
+          ),
+        ),
+      );
       label = λ j start states rows hj hs room a. given-done _ (I .left) (I .right) a
           (r1, (r2, (r3, (r4, (r5, ((hj, hs), (tt, (room, tt))))))));
       sets = λ j start sets rows hj hs room a. given-done _ (I .left) (I .right) a
@@ -65,14 +90,16 @@ module _ (I : Input) (rules : All (tableRules I [])) (j : ℕ) (inside : j < I .
   unfolding columnOf
   hand-up-row e call x h =
       let a = rules-answer I rules .handUp j _ _ inside (call .room) (call .answer) (call .promise .answer) in
-      let written = subst (λ b. HandedUp I j (call .row) (call .rows) b (call .rowAfter) (call .rowsAfter)) a (call .promise) .lists in
+      let written = subst (λ b. HandedUp I j (call .row) (call .rows) b (call .rowAfter) (call .rowsAfter)) a (call
+      .promise) .lists in
       call .result x h ∙ entry-unique P x _ _ (written .each .each x h) (row-entry P sound x h)
 
   -- what a call of scoring leaves is the score
   pub score-of : (S : ℕ → ℕ) → ScoreCall I S → S j ≡ score P
   score-of S call =
       let a = rules-answer I rules .score _ _ (call .room) (call .answer) (call .promise .answer) in
-      let written = subst (λ b. Scored I (call .scores) (call .rows) b (call .scoresAfter) (call .rowsAfter)) a (call .promise) .lists in
+      let written = subst (λ b. Scored I (call .scores) (call .rows) b (call .scoresAfter) (call .rowsAfter)) a (call
+      .promise) .lists in
       call .result j inside ∙ score-meant I rules j inside _ (written .each .each j inside)
 
   -- what a call of labelling leaves is the labelling by rows
@@ -81,7 +108,8 @@ module _ (I : Input) (rules : All (tableRules I [])) (j : ℕ) (inside : j < I .
   unfolding columnOf
   labels-of start l ok call v h =
       let a = rules-answer I rules .label j start _ _ inside ok (call .room) (call .answer) (call .promise .answer) in
-      let written = subst (λ b. Labelled I j start (call .states) (call .rows) b (call .statesAfter) (call .rowsAfter)) a (call .promise) .lists in
+      let written = subst (λ b. Labelled I j start (call .states) (call .rows) b (call .statesAfter) (call
+      .rowsAfter)) a (call .promise) .lists in
       call .result v h
       ∙ label-meant I rules j inside start (λ u. getD (call .statesAfter) u 0) ok (written .labels) v h
 
@@ -90,5 +118,6 @@ module _ (I : Input) (rules : All (tableRules I [])) (j : ℕ) (inside : j < I .
       → (v : ℕ) → v < nodes I → S v ≡ setsFrom P (stateOf start (freeSet P)) v
   sets-of start S ok call v h =
       let a = rules-answer I rules .sets j start _ _ inside ok (call .room) (call .answer) (call .promise .answer) in
-      let written = subst (λ b. SetsFound I j start (call .sets) (call .rows) b (call .setsAfter) (call .rowsAfter)) a (call .promise) .lists in
+      let written = subst (λ b. SetsFound I j start (call .sets) (call .rows) b (call .setsAfter) (call .rowsAfter))
+      a (call .promise) .lists in
       call .result v h ∙ set-meant I rules j inside start v _ ok h (written .each .each v h)

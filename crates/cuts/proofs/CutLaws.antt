@@ -82,7 +82,11 @@ module _ (I : Input) (rules : All (tableRules I [])) (v : ℕ) (cut : CutAt I v)
           let (most, least) = higher p below hp in
           by-eq u v
           (λ e. let one = ap (branch I v) e ∙ branch-own in (omega arith, λ k. omega arith))
-          (λ ne. let same = branch-free p u hp c ne in (omega arith, λ k. let lower = least (sym same ∙ k) in omega arith)))
+          (λ ne. let same = branch-free p u hp c ne in (
+            omega arith,
+            λ k. let lower = least (sym same ∙ k) in omega
+                arith,
+          )))
           (λ top. let e : branch I v u ≡ 0 = ap (branch I v) (omega arith) ∙ branch-root in
           (omega arith, λ k. absurd (omega arith)))
 
@@ -184,11 +188,14 @@ module _ (I : Input) (rules : All (tableRules I [])) (v : ℕ) (cut : CutAt I v)
         kinds : {r : ℕ} → leaf symbol r ≡ leaf handed 0 → ⊥
         kinds e = let z : _≡_ {A = ℕ} 0 1 = cc in omega arith
 
-        rows : (j u k x : ℕ) → j < I .c → u < n → K .node u ≡ leaf handed k → x < I .s → K .entry j u x ≡ row (column I j) u x
+        rows : (j u k x : ℕ) → j < I .c → u < n → K .node u ≡ leaf handed k → x < I .s → K .entry j u x ≡ row (column
+            I j) u x
         rows j u k x hj h e hx =
             by-eq u v
-            (λ p. pick-true (up j x) (column I j .entry u x) (eq-eqb u v p) ∙ sent j x hj hx ∙ ap (λ w. row (column I j) w x) (sym p))
-            (λ ne. pick-false (up j x) (column I j .entry u x) (ne-eqb u v ne) ∙ tip-row j u k x hj h (sym (node-other u ne) ∙ e))
+            (λ p. pick-true (up j x) (column I j .entry u x) (eq-eqb u v p) ∙ sent j x hj hx ∙ ap (λ w. row (column I
+            j) w x) (sym p))
+            (λ ne. pick-false (up j x) (column I j .entry u x) (ne-eqb u v ne) ∙ tip-row j u k x hj h (sym
+            (node-other u ne) ∙ e))
 
     -- v is kept in the rest
     pub rest-own : K .keep v ≡ 1

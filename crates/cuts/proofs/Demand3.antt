@@ -32,7 +32,14 @@ use Rattle.cuts.specs.Call.{Answers}
 use Rattle.cuts.specs.Cut.{CutAt, part}
 use Rattle.cuts.specs.Cuttable.{Cuttable}
 use Rattle.cuts.specs.Plan.{Plan, SendsUp, ScoresBy, LabelsBy, SetsBy, Everywhere}
-use Rattle.cuts.proofs.PlanResults.{sends-right, sent-right, scores-right, labels-right, sets-right, plan-answers}
+use Rattle.cuts.proofs.PlanResults.{
+  sends-right,
+  sent-right,
+  scores-right,
+  labels-right,
+  sets-right,
+  plan-answers,
+}
 
 -- a row entry of a column without handed rows may be handed up
 whole-small : (P : Column) → Sound 0 P → (v x : ℕ) → v ≤ P .last → x < P .states → (k : Kids) → P .kids v ≡ k
@@ -50,7 +57,8 @@ whole-cuttable W rules none =
       rules = rules;
       small = λ j v x hj h hx.
           whole-small (column W j)
-          (whole-sound (W .left) (W .right) (W .s) (W .costs) (W .c) (W .cells) (W .handed) j (rules-legal W rules) (rules .1 .1 .0)
+          (whole-sound (W .left) (W .right) (W .s) (W .costs) (W .c) (W .cells) (W .handed) j (rules-legal W rules)
+          (rules .1 .1 .0)
           (rules .1 .1 .1 .0) (rules .1 .1 .1 .1 .0) hj none) v x (omega arith) hx (column W j .kids v) refl;
     }
 
@@ -62,7 +70,8 @@ module _ (W : Input) (rules : All (tableRules W [])) (none : tipsIn handed W ≡
   pub cut-answers : Everywhere Answers plan W
   cut-answers = plan-answers plan W ok
 
-  -- The scores put together are the whole's: each the least cost over all labellings of the whole that agree with its tips.
+  -- The scores put together are the whole's: each the least cost over all labellings of the whole that agree with its
+  -- tips.
   pub cut-scores : (S : ℕ → ℕ) → ScoresBy plan W S → (j : ℕ) → j < W .c → IsScore (column W j) (S j)
   cut-scores S by j hj =
       subst (IsScore (column W j)) (sym (scores-right plan W S ok by j hj))
@@ -109,7 +118,8 @@ module _ (W : Input) (rules : All (tableRules W [])) (none : tipsIn handed W ≡
     pub same-scores : (S T : ℕ → ℕ) → ScoresBy plan W S → ScoresBy other W T → (j : ℕ) → j < W .c → S j ≡ T j
     same-scores S T by to j hj = scores-right plan W S ok by j hj ∙ sym (scores-right other W T ok to j hj)
 
-    pub same-labels : (j : ℕ) (start : Start) (l m : ℕ → ℕ) → j < W .c → StateStart W j start → LabelsBy plan W j start l
+    pub same-labels : (j : ℕ) (start : Start) (l m : ℕ → ℕ) → j < W .c → StateStart W j start → LabelsBy plan W j
+        start l
         → LabelsBy other W j start m → (v : ℕ) → v < nodes W → l v ≡ m v
     same-labels j start l m hj fit by to v h =
         labels-right plan W j start l ok hj fit by v h ∙ sym (labels-right other W j start m ok hj fit to v h)

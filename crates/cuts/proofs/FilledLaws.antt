@@ -28,7 +28,8 @@ module _ (c h s : ℕ) (entry : ℕ → ℕ → ℕ → ℕ) where
   entries-long =
       joined-long c (h * s) (λ j. joined h (λ k. listOf s (entry j k))) (λ j i. column-long j) ∙ sym (mul-assoc c h s)
 
-  pub entries-at : (j k x : ℕ) → j < c → k < h → x < s → getD (entriesBy c h s entry) ((j * h + k) * s + x) 0 ≡ entry j k x
+  pub entries-at : (j k x : ℕ) → j < c → k < h → x < s → getD (entriesBy c h s entry) ((j * h + k) * s + x) 0 ≡ entry
+      j k x
   unfolding entriesBy
   entries-at j k x hj hk hx =
       let spread : (j * h + k) * s ≡ j * h * s + k * s = add-mul (j * h) k s in

@@ -9,7 +9,23 @@ use native.Mathlib.Omega.{arith}
 use lib.ListN.{length, getD}
 use Rattle.parsimony.specs.Row.{row}
 use Rattle.parsimony.specs.Sum.{sum}
-use Rattle.parsimony.specs.Table.{Kind, symbol, handed, Node, leaf, inner, kidsOf, nodeAt, isTip, names, tips, rowUses, childUses, TreeRules, SizeRules}
+use Rattle.parsimony.specs.Table.{
+  Kind,
+  symbol,
+  handed,
+  Node,
+  leaf,
+  inner,
+  kidsOf,
+  nodeAt,
+  isTip,
+  names,
+  tips,
+  rowUses,
+  childUses,
+  TreeRules,
+  SizeRules,
+}
 use Rattle.parsimony.specs.Test.{at}
 use Rattle.parsimony.specs.Tree.{Has, each, uses}
 use Rattle.parsimony.proofs.NodeLaws.{node-symbol, node-handed, node-inner}
@@ -22,12 +38,35 @@ use Rattle.answers.specs.CallRules.{tableRules}
 use Rattle.answers.specs.Input.{Input, nodes, nodeIn, tipsIn, column}
 use Rattle.answers.specs.Rules.{All}
 use Rattle.cuts.specs.Numbering.{renumber, original}
-use Rattle.cuts.specs.Piece.{Choice, keptRow, keptHanded, renumbered, leftEntry, rightEntry, nodeOf, nodeNew, keptNodes, keptRows, keptTips, piece}
+use Rattle.cuts.specs.Piece.{
+  Choice,
+  keptRow,
+  keptHanded,
+  renumbered,
+  leftEntry,
+  rightEntry,
+  nodeOf,
+  nodeNew,
+  keptNodes,
+  keptRows,
+  keptTips,
+  piece,
+}
 use Rattle.parsimony.proofs.FilledLaws.{list-long, list-at}
-use Rattle.cuts.proofs.NumberLaws.{Marks, renumber-lt, renumber-mono, renumber-most, renumber-one, original-is, original-own, sum-kept}
+use Rattle.cuts.proofs.NumberLaws.{
+  Marks,
+  renumber-lt,
+  renumber-mono,
+  renumber-most,
+  renumber-one,
+  original-is,
+  original-own,
+  sum-kept,
+}
 
 -- The kept nodes stand as a tree with root top: with an inner node its children are kept; each kept node but top is a
--- child of a kept one; tips and inner nodes are those of the table, but for handed tips, whose rows are the table's there.
+-- child of a kept one; tips and inner nodes are those of the table, but for handed tips, whose rows are the table's
+-- there.
 pub record Stands (I : Input) (K : Choice) (top : ℕ) : Type 0 where
   pub marks : Marks (nodes I) (K .keep)
   pub inside : top < nodes I
@@ -36,7 +75,8 @@ pub record Stands (I : Input) (K : Choice) (top : ℕ) : Type 0 where
   pub kids : (u a b : ℕ) → u < nodes I → K .keep u ≡ 1 → K .node u ≡ inner a b
       → (nodeIn I u ≡ inner a b) × (K .keep a ≡ 1) × (K .keep b ≡ 1)
   pub tips : (u r : ℕ) → u < nodes I → K .keep u ≡ 1 → K .node u ≡ leaf symbol r → nodeIn I u ≡ leaf symbol r
-  pub parent : (u : ℕ) → u < top → K .keep u ≡ 1 → (p : ℕ) × (p < nodes I) × (K .keep p ≡ 1) × Has u (kidsOf (K .node p))
+  pub parent : (u : ℕ) → u < top → K .keep u ≡ 1 → (p : ℕ) × (p < nodes I) × (K .keep p ≡ 1) × Has u (kidsOf (K .node
+      p))
   pub rows : (j u k x : ℕ) → j < I .c → u < nodes I → K .keep u ≡ 1 → K .node u ≡ leaf handed k → x < I .s
       → K .entry j u x ≡ row (column I j) u x
 
@@ -54,7 +94,8 @@ keep-le k x y most less =
 -- two places that are met together
 at-both : (u m a b : ℕ) → (u ≡ a → m ≡ b) → (m ≡ b → u ≡ a) → at u 1 a ≡ at m 1 b
 at-both u m a b f g =
-    by-eq u a (λ e. at-same u 1 a e ∙ sym (at-same m 1 b (f e))) (λ ne. at-other u 1 a ne ∙ sym (at-other m 1 b (λ e. ne (g e))))
+    by-eq u a (λ e. at-same u 1 a e ∙ sym (at-same m 1 b (f e))) (λ ne. at-other u 1 a ne ∙ sym (at-other m 1 b (λ e.
+    ne (g e))))
 
 pub leaf-inner : {k : Kind} {r a b : ℕ} → leaf k r ≡ inner a b → ⊥
 leaf-inner e = let z : _≡_ {A = ℕ} 0 1 = cc in omega arith
@@ -66,7 +107,8 @@ Small (leaf handed k) = Unit {0}
 Small (inner a b) = a < 65535
 
 -- a node is read from its entries
-node-code : (left right : List ℕ) (i : ℕ) (x : Node) → Small x → getD left i 0 ≡ leftEntry x → getD right i 0 ≡ rightEntry x
+node-code : (left right : List ℕ) (i : ℕ) (x : Node) → Small x → getD left i 0 ≡ leftEntry x → getD right i 0 ≡
+    rightEntry x
     → nodeAt left right i ≡ x
 node-code left right i (leaf symbol r) small e f = node-symbol left right i r small e f
 node-code left right i (leaf handed k) small e f = node-handed left right i k e f
@@ -83,7 +125,8 @@ module _ (I : Input) (rules : All (tableRules I [])) (K : Choice) (top : ℕ) (s
   tree = rules .1 .0
 
   -- the original of a node of the piece
-  pub from : (i : ℕ) → i < keptNodes I K → (nodeOf I K i < n) × (K .keep (nodeOf I K i) ≡ 1) × (renumber (K .keep) (nodeOf I K i) ≡ i)
+  pub from : (i : ℕ) → i < keptNodes I K → (nodeOf I K i < n) × (K .keep (nodeOf I K i) ≡ 1) × (renumber (K .keep)
+      (nodeOf I K i) ≡ i)
   unfolding nodeOf
   from i h = original-is (K .keep) n i (stands .marks) h
 
@@ -98,9 +141,11 @@ module _ (I : Input) (rules : All (tableRules I [])) (K : Choice) (top : ℕ) (s
             omega arith;
       }
     where
-      own : (u r : ℕ) → u < n → K .keep u ≡ 1 → (x : Node) → K .node u ≡ x → names symbol r x ≤ names symbol r (nodeIn I u)
+      own : (u r : ℕ) → u < n → K .keep u ≡ 1 → (x : Node) → K .node u ≡ x → names symbol r x ≤ names symbol r
+          (nodeIn I u)
       own u r h k (leaf symbol q) e =
-          let same : names symbol r (nodeIn I u) ≡ names symbol r (leaf symbol q) = ap (names symbol r) (stands .tips u q h k e) in
+          let same : names symbol r (nodeIn I u) ≡ names symbol r (leaf symbol q) = ap (names symbol r) (stands .tips
+          u q h k e) in
           omega arith
       own u r h k (leaf handed q) e = omega arith
       own u r h k (inner a b) e = omega arith
@@ -240,7 +285,8 @@ module _ (I : Input) (rules : All (tableRules I [])) (K : Choice) (top : ℕ) (s
       let part = sum-before f n p hp in
       let once = tree .child {u = w} (let b = stands .inside in omega arith) in
       let most = sum-le f (λ u. each (at w 1) (kidsOf (nodeIn I u))) n
-      (λ u hu. keep-le (K .keep u) _ _ (stands .marks .most u hu) (λ k. less i u (omega arith) hu k (K .node u) refl)) in
+      (λ u hu. keep-le (K .keep u) _ _ (stands .marks .most u hu) (λ k. less i u (omega arith) hu k (K .node u)
+      refl)) in
       omega arith
     where
       less : (i u : ℕ) → i < m → u < n → K .keep u ≡ 1 → (x : Node) → K .node u ≡ x
@@ -276,7 +322,8 @@ module _ (I : Input) (rules : All (tableRules I [])) (K : Choice) (top : ℕ) (s
 
   -- and each handed row
   handed-name : (q u : ℕ) (x : Node)
-      → K .keep u * names handed q (renumbered I K u x) ≡ K .keep u * isTip handed x * at q 1 (renumber (keptHanded K) u)
+      → K .keep u * names handed q (renumbered I K u x) ≡ K .keep u * isTip handed x * at q 1 (renumber (keptHanded
+      K) u)
   handed-name q u (leaf symbol r) =
       mul-zero (K .keep u) ∙ sym (zero-mul (at q 1 (renumber (keptHanded K) u)))
       ∙ ap (λ z. z * at q 1 (renumber (keptHanded K) u)) (sym (mul-zero (K .keep u)))
@@ -310,7 +357,8 @@ module _ (I : Input) (rules : All (tableRules I [])) (K : Choice) (top : ℕ) (s
       let (inside, kept, number) = from i h in
       let (same, ka, kb) = stands .kids (nodeOf I K i) a b inside kept e in
       let one : (w : ℕ) → K .keep w ≡ 1 → Has w (kidsOf (inner a b)) → renumber (K .keep) w < i =
-      λ w kw hw. let below = tree .below {v = nodeOf I K i} {u = w} inside (subst (λ x. Has w (kidsOf x)) (sym same) hw) in
+      λ w kw hw. let below = tree .below {v = nodeOf I K i} {u = w} inside (subst (λ x. Has w (kidsOf x)) (sym same)
+      hw) in
       let less = renumber-lt (K .keep) w (nodeOf I K i) kw below in omega arith in
       ⊎-elim (λ p. let l = one a ka (inl refl) in omega arith) (λ p. let l = one b kb (inr refl) in omega arith) c
 
@@ -330,7 +378,8 @@ module _ (I : Input) (rules : All (tableRules I [])) (K : Choice) (top : ℕ) (s
   unfolding nodeNew
   piece-tree =
       record {
-        below = λ {v} {u} h c. new-below v u h (K .node (nodeOf I K v)) refl (subst (λ x. Has u (kidsOf x)) (piece-node v h) c);
+        below = λ {v} {u} h c. new-below v u h (K .node (nodeOf I K v)) refl (subst (λ x. Has u (kidsOf x))
+            (piece-node v h) c);
         apart = λ {v} {a} {b} h e. new-apart v h (K .node (nodeOf I K v)) refl a b (sym (piece-node v h) ∙ e);
         child = λ {u} h. piece-child u h;
         rows = piece-rows;
@@ -348,7 +397,8 @@ module _ (I : Input) (rules : All (tableRules I [])) (K : Choice) (top : ℕ) (s
       let few = renumber-most (K .keep) n (stands .marks) in
       let many = rules .0 .most in
       let same : suc (m - 1) ≡ m = omega arith in
-      let odd = rules-odd (m - 1) (nodeIn (piece I K)) (subst (λ k. TreeRules k (nodeIn (piece I K))) (sym same) piece-tree) in
+      let odd = rules-odd (m - 1) (nodeIn (piece I K)) (subst (λ k. TreeRules k (nodeIn (piece I K))) (sym same)
+      piece-tree) in
       let e : length L % 2 ≡ 1 = ap (λ k. k % 2) (long ∙ sym same) ∙ odd in
       record {
         equal = long ∙ sym (list-long m (λ i. rightEntry (nodeNew I K i)));

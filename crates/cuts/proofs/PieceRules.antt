@@ -25,12 +25,38 @@ use Rattle.answers.proofs.RootLaws.{rules-sound}
 use Rattle.cuts.specs.Cuttable.{Cuttable}
 use Rattle.cuts.specs.Filled.{cellsBy, entriesBy}
 use Rattle.cuts.specs.Numbering.{renumber, original}
-use Rattle.cuts.specs.Piece.{Choice, keptRow, keptHanded, renumbered, nodeOf, nodeNew, keptNodes, keptRows, keptTips, keptCell, keptEntry, piece}
+use Rattle.cuts.specs.Piece.{
+  Choice,
+  keptRow,
+  keptHanded,
+  renumbered,
+  nodeOf,
+  nodeNew,
+  keptNodes,
+  keptRows,
+  keptTips,
+  keptCell,
+  keptEntry,
+  piece,
+}
 use Rattle.cuts.specs.Sits.{Sits}
 use Rattle.parsimony.proofs.FilledLaws.{place-split}
 use Rattle.cuts.proofs.FilledLaws.{cells-long, cells-at, entries-long, entries-at}
 use Rattle.cuts.proofs.NumberLaws.{renumber-lt, original-is, original-own}
-use Rattle.cuts.proofs.PieceLaws.{Stands, from, row-kept, row-marks, handed-marks, piece-nodes, piece-node, piece-handed, piece-symbol, piece-tree, piece-size, piece-some}
+use Rattle.cuts.proofs.PieceLaws.{
+  Stands,
+  from,
+  row-kept,
+  row-marks,
+  handed-marks,
+  piece-nodes,
+  piece-node,
+  piece-handed,
+  piece-symbol,
+  piece-tree,
+  piece-size,
+  piece-some,
+}
 use Rattle.cuts.proofs.SitsLaws.{sits-rows}
 
 -- of two numbers whose product is 1, the first at most 1, both are 1
@@ -56,9 +82,11 @@ cells-rules s t c cell most fit =
       columns = most;
       count = cells-long t c cell;
       filled = λ i h. let (r, j, hr, hj, e) = place-split t c i h in
-          subst (λ k. 1 ≤ k) (sym (ap (λ k. getD (cellsBy t c cell) k 0) e ∙ cells-at t c cell r j hr hj)) (fit r j hr hj .0);
+          subst (λ k. 1 ≤ k) (sym (ap (λ k. getD (cellsBy t c cell) k 0) e ∙ cells-at t c cell r j hr hj)) (fit r j
+          hr hj .0);
       bits = λ i h. let (r, j, hr, hj, e) = place-split t c i h in
-          subst (λ k. k < 2 ^ s) (sym (ap (λ k. getD (cellsBy t c cell) k 0) e ∙ cells-at t c cell r j hr hj)) (fit r j hr hj .1);
+          subst (λ k. k < 2 ^ s) (sym (ap (λ k. getD (cellsBy t c cell) k 0) e ∙ cells-at t c cell r j hr hj)) (fit r
+          j hr hj .1);
     }
 
 -- and so do rows that may be handed up
@@ -72,7 +100,8 @@ entries-rules s c h entry small some =
       range = λ i hi. let (q, x, hq, hx, e) = place-split (c * h) s i hi in
           let (j, k, hj, hk, f) = place-split c h q hq in
           let same : getD (entriesBy c h s entry) i 0 ≡ entry j k x =
-          ap (λ z. getD (entriesBy c h s entry) z 0) (e ∙ ap (λ z. z * s + x) f) ∙ entries-at c h s entry j k x hj hk hx in
+          ap (λ z. getD (entriesBy c h s entry) z 0) (e ∙ ap (λ z. z * s + x) f) ∙ entries-at c h s entry j k x hj hk
+          hx in
           subst (λ z. (z ≤ mostHanded) ⊎ (z ≡ barred)) (sym same) (small j k x hj hk hx);
       unbarred = λ i hi. let (j, k, hj, hk, f) = place-split c h i hi in
           let (x, hx, free) = some j k hj hk in
@@ -82,7 +111,8 @@ entries-rules s c h entry small some =
     }
 
 -- a row of a sound column is not wholly barred
-pub row-free : (P : Column) → Sound mostHanded P → (v : ℕ) → v ≤ P .last → (x : ℕ) × (x < P .states) × (row P v x ≡ barred → ⊥)
+pub row-free : (P : Column) → Sound mostHanded P → (v : ℕ) → v ≤ P .last → (x : ℕ) × (x < P .states) × (row P v x ≡
+    barred → ⊥)
 row-free P sound v h =
     let (x, hx, small) = row-open mostHanded P sound v h in
     let most = bound-root (P .last) mostHanded (P .kids) (sound .tree) v h in
@@ -129,7 +159,8 @@ module _ (I : Input) (rules : All (tableRules I [])) (K : Choice) (top : ℕ) (s
 
   -- what a tip of the piece has in column j
   abbrev tipOf : ℕ → Node → ℕ → ℕ
-  tipOf j = tipEntry (cellAt (I .c) (piece I K .cells) j) (handedAt (I .s) (tipsIn handed (piece I K)) (piece I K .handed) j)
+  tipOf j = tipEntry (cellAt (I .c) (piece I K .cells) j) (handedAt (I .s) (tipsIn handed (piece I K)) (piece I K
+      .handed) j)
 
   tip-same : (j u x : ℕ) → j < I .c → u < n → K .keep u ≡ 1 → x < I .s → (y : Node) → K .node u ≡ y
       → kidsOf (renumbered I K u y) ≡ tip → tipOf j (renumbered I K u y) x ≡ row (column I j) u x
@@ -138,7 +169,8 @@ module _ (I : Input) (rules : All (tableRules I [])) (K : Choice) (top : ℕ) (s
       let at-node = stands .tips u r h k e in
       let sound = rules-sound I rules j hj in
       ap (λ z. cellEntry z x) (cell-same j u r hj h k e)
-      ∙ ap (λ z. tipEntry (cellAt (I .c) (I .cells) j) (handedAt (I .s) (tipsIn handed I) (I .handed) j) z x) (sym at-node)
+      ∙ ap (λ z. tipEntry (cellAt (I .c) (I .cells) j) (handedAt (I .s) (tipsIn handed I) (I .handed) j) z x) (sym
+      at-node)
       ∙ sym (row-tip (column I j) (sound .tree) u x (omega arith) (ap kidsOf at-node))
   tip-same j u x hj h k hx (leaf handed r) e t = entry-same j u r x hj h k e hx
   tip-same j u x hj h k hx (inner a b) e t = absurd (two-not-tip _ _ t)
@@ -153,11 +185,13 @@ module _ (I : Input) (rules : All (tableRules I [])) (K : Choice) (top : ℕ) (s
       let left-same : renumber (K .keep) a ≡ a' = cc in
       let right-same : renumber (K .keep) b ≡ b' = cc in
       let low : (w : ℕ) → Has w (kidsOf (inner a b)) → w < n =
-      λ w c. let below = rules .1 .0 .below {v = u} {u = w} h (subst (λ x. Has w (kidsOf x)) (sym same) c) in omega arith in
+      λ w c. let below = rules .1 .0 .below {v = u} {u = w} h (subst (λ x. Has w (kidsOf x)) (sym same) c) in omega
+      arith in
       let own-left = original-own (K .keep) n a (stands .marks) (low a (inl refl)) ka in
       let own-right = original-own (K .keep) n b (stands .marks) (low b (inr refl)) kb in
       ap kidsOf same
-      ∙ ap₂ two (sym own-left ∙ ap (original (K .keep) n) left-same) (sym own-right ∙ ap (original (K .keep) n) right-same)
+      ∙ ap₂ two (sym own-left ∙ ap (original (K .keep) n) left-same) (sym own-right ∙ ap (original (K .keep) n)
+      right-same)
 
   -- The piece sits in its table, in every column.
   pub piece-sits : (j : ℕ) → j < I .c → Sits (column (piece I K) j) (column I j) (nodeOf I K)
@@ -189,7 +223,8 @@ module _ (I : Input) (rules : All (tableRules I [])) (K : Choice) (top : ℕ) (s
       let old = rules .1 .1 .1 .0 in
       subst (λ t. CellRules (I .s) t (I .c) (piece I K .cells)) (sym symbol-many)
       (cells-rules (I .s) (keptRows I K) (I .c) (keptCell I K) (old .columns)
-      (λ r j hr hj. let (inside, kept, number) = original-is (keptRow I K) (tipsIn symbol I) r (row-marks I rules K top stands) hr in
+      (λ r j hr hj. let (inside, kept, number) = original-is (keptRow I K) (tipsIn symbol I) r (row-marks I rules K
+      top stands) hr in
       let q = place (original (keptRow I K) (tipsIn symbol I) r) j (tipsIn symbol I) (I .c) inside hj in
       (old .filled _ q, old .bits _ q)))
 
@@ -212,16 +247,20 @@ module _ (I : Input) (rules : All (tableRules I [])) (K : Choice) (top : ℕ) (s
     piece-entries =
         subst (λ h. HandedRules (I .s) (I .c) h (piece I K .handed)) (sym handed-many)
         (entries-rules (I .s) (I .c) (keptTips I K) (keptEntry I K)
-        (λ j k x hj hk hx. let (inside, kept, number) = original-is (keptHanded K) n k (handed-marks I rules K top stands) hk in
+        (λ j k x hj hk hx. let (inside, kept, number) = original-is (keptHanded K) n k (handed-marks I rules K top
+        stands) hk in
         subst (λ z. (z ≤ mostHanded) ⊎ (z ≡ barred)) (sym (handed-row j k x hj hk hx))
         (small j (original (keptHanded K) n k) x hj inside hx))
-        (λ j k hj hk. let (inside, kept, number) = original-is (keptHanded K) n k (handed-marks I rules K top stands) hk in
-        let (x, hx, free) = row-free (column I j) (rules-sound I rules j hj) (original (keptHanded K) n k) (omega arith) in
+        (λ j k hj hk. let (inside, kept, number) = original-is (keptHanded K) n k (handed-marks I rules K top stands)
+        hk in
+        let (x, hx, free) = row-free (column I j) (rules-sound I rules j hj) (original (keptHanded K) n k) (omega
+        arith) in
         (x, hx, λ bar. free (sym (handed-row j k x hj hk hx) ∙ bar))))
 
     pub piece-rules : All (tableRules (piece I K) [])
     piece-rules =
-        let tree = subst (λ z. TreeRules z (nodeIn (piece I K))) (sym (piece-nodes I rules K top stands)) (piece-tree I rules K top stands) in
+        let tree = subst (λ z. TreeRules z (nodeIn (piece I K))) (sym (piece-nodes I rules K top stands)) (piece-tree
+        I rules K top stands) in
         (piece-size I rules K top stands, (tree, (rules .1 .1 .0, (piece-cells, (piece-entries, tt)))))
 
     -- its rows are the table's

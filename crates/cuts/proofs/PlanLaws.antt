@@ -43,7 +43,8 @@ module _ (I : Input) (ok : Cuttable I) (K : Choice) (top : ℕ) (stands : Stands
 -- Work from the root down: labels or sets, F of a column, a start and a node. It goes along with a column that sits in
 -- another, and gives the root its start.
 pub record Downward (F : Column → ℕ → ℕ → ℕ) : Type 0 where
-  pub along : (A B : Column) (ρ : ℕ → ℕ) → Sits A B ρ → Rooted (A .last) (A .kids) → Rooted (B .last) (B .kids) → 0 < A .states
+  pub along : (A B : Column) (ρ : ℕ → ℕ) → Sits A B ρ → Rooted (A .last) (A .kids) → Rooted (B .last) (B .kids) → 0 <
+      A .states
       → (x v : ℕ) → v ≤ A .last → F B x (ρ v) ≡ F A (F B x (ρ (A .last))) v
   pub root : (P : Column) → Rooted (P .last) (P .kids) → (x : ℕ) → F P x (P .last) ≡ x
 
@@ -75,11 +76,13 @@ module _ (F : Column → ℕ → ℕ → ℕ) (down : Downward F) (I : Input) (o
       let e : nodes (piece I K) - 1 ≡ keptNodes I K - 1 = ap (λ k. k - 1) long in
       let peak : nodeOf I K (nodes (piece I K) - 1) ≡ top = ap (nodeOf I K) e ∙ piece-top I rules K top stands in
       down .along (column (piece I K) j) (column I j) (nodeOf I K) (piece-sits I rules K top stands j hj)
-      (rules-sound (piece I K) (piece-rules I rules K top stands (ok .small)) j hj .tree) (whole-sound .tree) (whole-sound .states) x i (omega arith)
+      (rules-sound (piece I K) (piece-rules I rules K top stands (ok .small)) j hj .tree) (whole-sound .tree)
+      (whole-sound .states) x i (omega arith)
       ∙ ap (λ u. F (column (piece I K) j) (F (column I j) x u) i) peak
 
   module _ (v : ℕ) (cut : CutAt I v) (sent : ℕ → ℕ → ℕ)
-      (right : (j x : ℕ) → j < I .c → x < I .s → sent j x ≡ row (column I j) v x) (j : ℕ) (hj : j < I .c) (x : ℕ) (f : ℕ → ℕ)
+      (right : (j x : ℕ) → j < I .c → x < I .s → sent j x ≡ row (column I j) v x) (j : ℕ) (hj : j < I .c) (x : ℕ) (f
+      : ℕ → ℕ)
       (above : (i : ℕ) → i < nodes (rest I v sent) → f (restNode I v sent i) ≡ F (column (rest I v sent) j) x i) where
     abbrev rules : All (tableRules I [])
     rules = ok .rules

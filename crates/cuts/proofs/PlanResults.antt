@@ -55,13 +55,15 @@ sends-right (columnsAt m first second) I up ok (within, (one, two)) j x hj hx =
     ∙ span-row I ok 0 m (omega arith) j (nodes I - 1) x low top hx
     ∙ ap (λ k. row (column I k) (nodes I - 1) x) (zero-add j))
     (λ high. ap (λ k. up k x) (sym (later m j high))
-    ∙ sends-right second (span I m (I .c - m)) (λ j. up (m + j)) (span-cuttable I ok m (I .c - m) (omega arith)) two (j - m) x
+    ∙ sends-right second (span I m (I .c - m)) (λ j. up (m + j)) (span-cuttable I ok m (I .c - m) (omega arith)) two
+    (j - m) x
     (omega arith) hx
     ∙ span-row I ok m (I .c - m) (omega arith) (j - m) (nodes I - 1) x (omega arith) top hx
     ∙ ap (λ k. row (column I k) (nodes I - 1) x) (later m j high))
 
 -- What a part sends up is the table's row at the node that was cut.
-pub sent-right : (below : Plan) (I : Input) (v : ℕ) (sent : ℕ → ℕ → ℕ) → Cuttable I → CutAt I v → SendsUp below (part I v) sent
+pub sent-right : (below : Plan) (I : Input) (v : ℕ) (sent : ℕ → ℕ → ℕ) → Cuttable I → CutAt I v → SendsUp below (part
+    I v) sent
     → (j x : ℕ) → j < I .c → x < I .s → sent j x ≡ row (column I j) v x
 sent-right below I v sent ok cut low j x hj hx =
     let in-part = part-stands I (ok .rules) v cut in
@@ -86,8 +88,10 @@ module _ (I : Input) (ok : Cuttable I) (v : ℕ) (cut : CutAt I v) (sent : ℕ �
   unfolding columnOf
   rest-top =
       let sound = rules-sound I (ok .rules) j hj in
-      sits-top (column (rest I v sent) j) (column I j) (nodeOf I K) (piece-sits I (ok .rules) K (nodes I - 1) in-rest j hj)
-      (rules-sound (rest I v sent) (again I ok K (nodes I - 1) in-rest .rules) j hj .tree) (sound .tree) (sound .states) peak
+      sits-top (column (rest I v sent) j) (column I j) (nodeOf I K) (piece-sits I (ok .rules) K (nodes I - 1) in-rest
+      j hj)
+      (rules-sound (rest I v sent) (again I ok K (nodes I - 1) in-rest .rules) j hj .tree) (sound .tree) (sound
+      .states) peak
 
 -- column i of a range that starts at first is column j of the table
 module _ (I : Input) (ok : Cuttable I) (first count : ℕ) (within : first + count ≤ I .c) (i j : ℕ) (low : i < count)
@@ -98,8 +102,10 @@ module _ (I : Input) (ok : Cuttable I) (first count : ℕ) (within : first + cou
   span-top =
       let sound = rules-sound I (ok .rules) (first + i) (omega arith) in
       subst (λ k. SameTop (column (span I first count) i) (column I k)) same
-      (sits-top (column (span I first count) i) (column I (first + i)) (λ v. v) (span-sits I ok first count within i low)
-      (rules-sound (span I first count) (span-rules I ok first count within) i low .tree) (sound .tree) (sound .states) refl)
+      (sits-top (column (span I first count) i) (column I (first + i)) (λ v. v) (span-sits I ok first count within i
+      low)
+      (rules-sound (span I first count) (span-rules I ok first count within) i low .tree) (sound .tree) (sound
+      .states) refl)
 
   -- and so is the work from the root down
   span-down : (F : Column → ℕ → ℕ → ℕ) → Downward F → (x v : ℕ) → v < nodes I
@@ -111,7 +117,8 @@ module _ (I : Input) (ok : Cuttable I) (first count : ℕ) (within : first + cou
       let B = column I (first + i) in
       ap (λ z. F A z v) (sym (down .root B (sound .tree) x))
       ∙ sym (down .along A B (λ v. v) (span-sits I ok first count within i low)
-      (rules-sound (span I first count) (span-rules I ok first count within) i low .tree) (sound .tree) (sound .states) x v (omega arith))
+      (rules-sound (span I first count) (span-rules I ok first count within) i low .tree) (sound .tree) (sound
+      .states) x v (omega arith))
       ∙ ap (λ k. F (column I k) x v) same
 
 -- The scores put together are the table's.
@@ -128,17 +135,20 @@ scores-right (columnsAt m first second) I S ok (within, (one, two)) j hj =
     (λ low. scores-right first (span I 0 m) S (span-cuttable I ok 0 m (omega arith)) one j low
     ∙ span-top I ok 0 m (omega arith) j j low (zero-add j) .score)
     (λ high. ap S (sym (later m j high))
-    ∙ scores-right second (span I m (I .c - m)) (λ j. S (m + j)) (span-cuttable I ok m (I .c - m) (omega arith)) two (j - m) (omega arith)
+    ∙ scores-right second (span I m (I .c - m)) (λ j. S (m + j)) (span-cuttable I ok m (I .c - m) (omega arith)) two
+    (j - m) (omega arith)
     ∙ span-top I ok m (I .c - m) (omega arith) (j - m) j (omega arith) (later m j high) .score)
 
 -- Work from the root down by calls: labelling or the sets, with the starts that its calls take.
 record Work (F : Column → ℕ → ℕ → ℕ) (free : Column → ℕ) (Call : Input → ℕ → Start → (ℕ → ℕ) → Type 0)
     (Allowed : Input → ℕ → Start → Type 0) : Type 1 where
   down : Downward F
-  call : (I : Input) → Cuttable I → (j : ℕ) → j < I .c → (start : Start) (f : ℕ → ℕ) → Allowed I j start → Call I j start f
+  call : (I : Input) → Cuttable I → (j : ℕ) → j < I .c → (start : Start) (f : ℕ → ℕ) → Allowed I j start → Call I j
+      start f
       → (v : ℕ) → v < nodes I → f v ≡ F (column I j) (stateOf start (free (column I j))) v
   same : (A B : Column) → SameTop A B → free A ≡ free B
-  moves : (A B : Input) (j k : ℕ) → A .s ≡ B .s → SameTop (column A j) (column B k) → (start : Start) → Allowed B k start
+  moves : (A B : Input) (j k : ℕ) → A .s ≡ B .s → SameTop (column A j) (column B k) → (start : Start) → Allowed B k
+      start
       → Allowed A j start
   lowers : (I : Input) → Cuttable I → (j : ℕ) → j < I .c → (start : Start) → Allowed I j start → (v : ℕ) → CutAt I v
       → Allowed (part I v) j (Given (F (column I j) (stateOf start (free (column I j))) v))
@@ -181,7 +191,8 @@ module _ {F : Column → ℕ → ℕ → ℕ} {free : Column → ℕ} {Call : In
       ∙ span-down I ok first count within i j low same F (work .down) (stateOf start (free (column I j))) v h
 
   -- What comes down by a plan is what the definitions by rows give on the whole table.
-  comes-right : (plan : Plan) (I : Input) (j : ℕ) (start : Start) (f : ℕ → ℕ) → Cuttable I → j < I .c → Allowed I j start
+  comes-right : (plan : Plan) (I : Input) (j : ℕ) (start : Start) (f : ℕ → ℕ) → Cuttable I → j < I .c → Allowed I j
+      start
       → Comes Call plan I j start f
       → (v : ℕ) → v < nodes I → f v ≡ F (column I j) (stateOf start (free (column I j))) v
   comes-right whole I j start f ok hj fit call v h = work .call I ok j hj start f fit call v h
@@ -194,7 +205,8 @@ module _ {F : Column → ℕ → ℕ → ℕ} {free : Column → ℕ} {Call : In
       let top = rest-top I ok v cut sent right j hj in
       let x = stateOf start (free (column I j)) in
       let upper : (i : ℕ) → i < nodes J → f (restNode I v sent i) ≡ F (column J j) x i =
-      λ i hi. comes-right above J j start (λ i. f (restNode I v sent i)) (again I ok (inRest I v sent) (nodes I - 1) in-rest) hj
+      λ i hi. comes-right above J j start (λ i. f (restNode I v sent i)) (again I ok (inRest I v sent) (nodes I - 1)
+      in-rest) hj
       (work .moves J I j j refl top start fit) high i hi
       ∙ ap (λ z. F (column J j) (stateOf start z) i) (work .same _ _ top) in
       let own = cut-above F (work .down) I ok v cut sent right j hj x f upper v (omega arith)
@@ -202,7 +214,8 @@ module _ {F : Column → ℕ → ℕ → ℕ} {free : Column → ℕ} {Call : In
       let start-below : Allowed (part I v) j (Given (f v)) =
       subst (λ z. Allowed (part I v) j (Given z)) (sym own) (work .lowers I ok j hj start fit v cut) in
       cut-down F (work .down) I ok v cut sent right j hj x f upper own
-      (λ i hi. comes-right below (part I v) j (Given (f v)) (λ i. f (partNode I v i)) (again I ok (inPart I v) v in-part) hj
+      (λ i hi. comes-right below (part I v) j (Given (f v)) (λ i. f (partNode I v i)) (again I ok (inPart I v) v
+      in-part) hj
       start-below lower i hi) u h
   comes-right (columnsAt m first second) I j start f ok hj fit (within, side) v h =
       ⊎-elim
@@ -220,13 +233,15 @@ module _ {F : Column → ℕ → ℕ → ℕ} {free : Column → ℕ} {Call : In
       side
 
 -- The labels put together are the table's.
-pub labels-right : (plan : Plan) (I : Input) (j : ℕ) (start : Start) (l : ℕ → ℕ) → Cuttable I → j < I .c → StateStart I j start
+pub labels-right : (plan : Plan) (I : Input) (j : ℕ) (start : Start) (l : ℕ → ℕ) → Cuttable I → j < I .c → StateStart
+    I j start
     → LabelsBy plan I j start l
     → (v : ℕ) → v < nodes I → l v ≡ labelFrom lowest (column I j) (stateOf start (freeStart (column I j))) v
 labels-right = comes-right label-work
 
 -- The sets put together are the table's.
-pub sets-right : (plan : Plan) (I : Input) (j : ℕ) (start : Start) (S : ℕ → ℕ) → Cuttable I → j < I .c → SetStart I j start
+pub sets-right : (plan : Plan) (I : Input) (j : ℕ) (start : Start) (S : ℕ → ℕ) → Cuttable I → j < I .c → SetStart I j
+    start
     → SetsBy plan I j start S
     → (v : ℕ) → v < nodes I → S v ≡ setsFrom (column I j) (stateOf start (freeSet (column I j))) v
 sets-right = comes-right sets-work

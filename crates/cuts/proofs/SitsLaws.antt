@@ -59,7 +59,8 @@ has-along A B ρ sits p u h c = go (A .kids p) refl c
     go (two a b) e (inl q) = subst (Has (ρ u)) (sym (sits .inner p a b h e)) (inl (ap ρ q))
     go (two a b) e (inr q) = subst (Has (ρ u)) (sym (sits .inner p a b h e)) (inr (ap ρ q))
 
-module _ (A B : Column) (ρ : ℕ → ℕ) (sits : Sits A B ρ) (treeA : Rooted (A .last) (A .kids)) (treeB : Rooted (B .last) (B .kids))
+module _ (A B : Column) (ρ : ℕ → ℕ) (sits : Sits A B ρ) (treeA : Rooted (A .last) (A .kids)) (treeB : Rooted (B
+    .last) (B .kids))
     (pos : 0 < A .states) where
   along-rows : IsRows A (λ v. row B (ρ v))
   unfolding innerRow

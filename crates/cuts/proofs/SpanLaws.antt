@@ -38,7 +38,10 @@ module _ (I : Input) (old : Cuttable I) (first count : ℕ) (within : first + co
       let cells = rules .1 .1 .1 .0 in
       let most = cells .columns in
       cells-rules (I .s) (tipsIn symbol I) count (laterCell I first) (omega arith)
-      (λ r j hr hj. let q = place r (first + j) (tipsIn symbol I) (I .c) hr (omega arith) in (cells .filled _ q, cells .bits _ q))
+      (λ r j hr hj. let q = place r (first + j) (tipsIn symbol I) (I .c) hr (omega arith) in (
+        cells .filled _ q,
+        cells .bits _ q,
+      ))
 
   span-entries : HandedRules (I .s) count (tipsIn handed I) (J .handed)
   unfolding laterEntry handedAt
@@ -80,11 +83,13 @@ module _ (I : Input) (old : Cuttable I) (first count : ℕ) (within : first + co
             ∙ sym (row-tip (column I (first + j)) (rules-sound I rules (first + j) (omega arith) .tree) v x h e);
       }
 
-  pub span-row : (j v x : ℕ) → j < count → v < nodes I → x < I .s → row (column J j) v x ≡ row (column I (first + j)) v x
+  pub span-row : (j v x : ℕ) → j < count → v < nodes I → x < I .s → row (column J j) v x ≡ row (column I (first + j))
+      v x
   unfolding columnOf
   span-row j v x hj h hx =
       let whole = rules-sound I rules (first + j) (omega arith) in
-      sits-rows (column J j) (column I (first + j)) (λ v. v) (span-sits j hj) (rules-sound J span-rules j hj .tree) (whole .tree)
+      sits-rows (column J j) (column I (first + j)) (λ v. v) (span-sits j hj) (rules-sound J span-rules j hj .tree)
+      (whole .tree)
       (whole .states) v x (omega arith) hx
 
   pub span-cuttable : Cuttable J

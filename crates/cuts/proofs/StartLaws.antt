@@ -45,7 +45,8 @@ module _ (A B : Input) (j k : ℕ) (states : A .s ≡ B .s)
   )
 
 -- every node of a labelling has a state
-labels-states : (P : Column) (start : Start) (l : ℕ → ℕ) → StartLabels P start l → (v : ℕ) → v ≤ P .last → l v < P .states
+labels-states : (P : Column) (start : Start) (l : ℕ → ℕ) → StartLabels P start l → (v : ℕ) → v ≤ P .last → l v < P
+    .states
 labels-states P Free l least = least .0 .agrees .states
 labels-states P (Given x) l least = least .agrees .states
 

@@ -24,12 +24,14 @@ module _ (I : Input) (rules : All (tableRules I [])) (v : ℕ) (cut : CutAt I v)
   pub part-tips : (k : Kind) → tipsIn k (part I v) ≡ sum (λ u. branch I v u * isTip k (nodeIn I u)) (nodes I)
   part-tips k =
       let stands = part-stands I rules v cut in
-      ap (tips k (nodeIn (part I v))) (piece-nodes I rules (inPart I v) v stands) ∙ tips-new I rules (inPart I v) v stands k
+      ap (tips k (nodeIn (part I v))) (piece-nodes I rules (inPart I v) v stands) ∙ tips-new I rules (inPart I v) v
+      stands k
 
   -- the rest has the others, and one handed tip more: v
   pub rest-tips : (sent : ℕ → ℕ → ℕ) → ((j x : ℕ) → j < I .c → x < I .s → sent j x ≡ row (column I j) v x)
       → (k : Kind)
-      → tipsIn k (rest I v sent) ≡ sum (λ u. (1 - branch I v u) * isTip k (nodeIn I u)) (nodes I) + isTip k (leaf handed 0)
+      → tipsIn k (rest I v sent) ≡ sum (λ u. (1 - branch I v u) * isTip k (nodeIn I u)) (nodes I) + isTip k (leaf
+      handed 0)
   rest-tips sent right k =
       let stands = rest-stands I rules v cut sent right in
       let inside = cut .inside in
@@ -49,7 +51,8 @@ module _ (I : Input) (rules : All (tableRules I [])) (v : ℕ) (cut : CutAt I v)
           let gone : (1 - branch I v u) * isTip k (nodeIn I u) ≡ 0 =
           ap (λ z. (1 - z) * isTip k (nodeIn I u)) mark ∙ zero-mul (isTip k (nodeIn I u)) in
           let here = at-same u (isTip k (leaf handed 0)) v e in
-          ap₂ _*_ (pick-true 1 (1 - branch I v u) (eq-eqb u v e)) (ap (isTip k) (pick-true (leaf handed 0) (nodeIn I u) (eq-eqb u v e)))
+          ap₂ _*_ (pick-true 1 (1 - branch I v u) (eq-eqb u v e)) (ap (isTip k) (pick-true (leaf handed 0) (nodeIn I
+          u) (eq-eqb u v e)))
           ∙ one-mul (isTip k (leaf handed 0))
           ∙ omega arith
 
@@ -58,5 +61,6 @@ module _ (I : Input) (rules : All (tableRules I [])) (v : ℕ) (cut : CutAt I v)
           ≡ (1 - branch I v u) * isTip k (nodeIn I u) + at u (isTip k (leaf handed 0)) v
       other u ne =
           let here = at-other u (isTip k (leaf handed 0)) v ne in
-          ap₂ _*_ (pick-false 1 (1 - branch I v u) (ne-eqb u v ne)) (ap (isTip k) (pick-false (leaf handed 0) (nodeIn I u) (ne-eqb u v ne)))
+          ap₂ _*_ (pick-false 1 (1 - branch I v u) (ne-eqb u v ne)) (ap (isTip k) (pick-false (leaf handed 0) (nodeIn
+          I u) (ne-eqb u v ne)))
           ∙ omega arith

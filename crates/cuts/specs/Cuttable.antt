@@ -11,7 +11,8 @@ use Rattle.answers.specs.CallRules.{tableRules}
 use Rattle.answers.specs.Input.{Input, nodes, column}
 use Rattle.answers.specs.Rules.{All}
 
--- The table keeps the rules 1 to 5, and each entry of each row may be handed up: it is at most 1,020,978 or barred. So it
+-- The table keeps the rules 1 to 5, and each entry of each row may be handed up: it is at most 1,020,978 or barred.
+-- So it
 -- is for every table without handed rows, and for whatever is cut from it.
 pub record Cuttable (I : Input) : Type 0 where
   pub rules : All (tableRules I [])

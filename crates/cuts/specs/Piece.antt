@@ -78,5 +78,7 @@ keptEntry I K j k x = K .entry j (original (keptHanded K) (nodes I) k) x
 -- The piece of a table: the kept nodes with their matrix rows and handed rows, all columns.
 abbrev pub piece : Input → Choice → Input
 piece I K =
-    input (listOf (keptNodes I K) (λ i. leftEntry (nodeNew I K i))) (listOf (keptNodes I K) (λ i. rightEntry (nodeNew I K i)))
-    (I .s) (I .costs) (I .c) (cellsBy (keptRows I K) (I .c) (keptCell I K)) (entriesBy (I .c) (keptTips I K) (I .s) (keptEntry I K))
+    input (listOf (keptNodes I K) (λ i. leftEntry (nodeNew I K i))) (listOf (keptNodes I K) (λ i. rightEntry (nodeNew
+    I K i)))
+    (I .s) (I .costs) (I .c) (cellsBy (keptRows I K) (I .c) (keptCell I K)) (entriesBy (I .c) (keptTips I K) (I .s)
+    (keptEntry I K))

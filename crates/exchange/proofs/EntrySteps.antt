@@ -74,10 +74,12 @@ copied line out i hl ho =
 
 module _ (sheet : List ℕ) (j : ℕ) (out : List ℕ) where
   -- a fault of the sheet
-  pub entry-fault : (f : Fault) (code : ℕ) → judge sheet ≡ faulty f → code ≡ codeOf (faulted f) → Entered sheet j out code out
+  pub entry-fault : (f : Fault) (code : ℕ) → judge sheet ≡ faulty f → code ≡ codeOf (faulted f) → Entered sheet j out
+      code out
   unfolding outcome onJudged leaves
   entry-fault f code is same =
-      let told : outcome sheet j (length out) ≡ faulted f = ap (λ p. onJudged p faulted (asked sheet j (length out))) is in
+      let told : outcome sheet j (length out) ≡ faulted f = ap (λ p. onJudged p faulted (asked sheet j (length out)))
+      is in
       record { answer = same ∙ ap codeOf (sym told); output = ap (λ o. leaves o out) (sym told) }
 
   module _ (has : Contents) (is : judge sheet ≡ sound has) where
@@ -89,7 +91,8 @@ module _ (sheet : List ℕ) (j : ℕ) (out : List ℕ) where
     pub entry-which : has .columns ≤ j → Entered sheet j out 6 out
     unfolding asked codeOf leaves
     entry-which over =
-        let told : outcome sheet j (length out) ≡ refused 6 0 = to-asked ∙ pick-false _ _ (le-ltb j (has .columns) over) in
+        let told : outcome sheet j (length out) ≡ refused 6 0 = to-asked ∙ pick-false _ _ (le-ltb j (has .columns)
+        over) in
         record { answer = ap codeOf (sym told); output = ap (λ o. leaves o out) (sym told) }
 
     module _ (inside : j < has .columns) where
@@ -107,7 +110,8 @@ module _ (sheet : List ℕ) (j : ℕ) (out : List ℕ) where
 
       -- done
       pub entry-done : (code : ℕ) (out' : List ℕ) → length (lineIn sheet has j) ≤ length out
-          → code ≡ 256 * length (lineIn sheet has j) → out' ≡ lineIn sheet has j ++ drop (length (lineIn sheet has j)) out
+          → code ≡ 256 * length (lineIn sheet has j) → out' ≡ lineIn sheet has j ++ drop (length (lineIn sheet has
+          j)) out
           → Entered sheet j out code out'
       unfolding given codeOf leaves
       entry-done code out' room c o =
@@ -117,7 +121,8 @@ module _ (sheet : List ℕ) (j : ℕ) (out : List ℕ) where
 
 -- the line that is given, from the line that is printed
 module _ (sheet : List ℕ) (s : Sheet) (table : List (List ℕ)) (left right : List ℕ) (j : ℕ)
-    (held : Held sheet s table left right j) (line line' : List ℕ) (n : ℕ) (is-line : Line sheet j line n line') (out : List ℕ) where
+    (held : Held sheet s table left right j) (line line' : List ℕ) (n : ℕ) (is-line : Line sheet j line n line') (out
+    : List ℕ) where
   abbrev text : List ℕ
   text = lineIn sheet (held .has) j
 
@@ -135,7 +140,8 @@ module _ (sheet : List ℕ) (s : Sheet) (table : List (List ℕ)) (left right : 
   give-room short =
       let size = size-is in entry-room sheet j out (held .has) (held .is) (held .inside) (omega arith)
 
-  pub give-done : (out' : List ℕ) → n ≤ length out → out' ≡ take n line' ++ drop n out → Entered sheet j out (256 * n) out'
+  pub give-done : (out' : List ℕ) → n ≤ length out → out' ≡ take n line' ++ drop n out → Entered sheet j out (256 *
+      n) out'
   give-done out' room o =
       let size = size-is in
       let is = is-line .is (held .has) (held .is) .1 in
@@ -145,7 +151,8 @@ module _ (sheet : List ℕ) (s : Sheet) (table : List (List ℕ)) (left right : 
       (o ∙ ap₂ (λ (a : List ℕ) k. a ++ drop k out) first size)
 
 -- what the reader leaves is held
-pub read-held : (sheet : List ℕ) (s : Sheet) (answer : Read) (table' : List (List ℕ)) (left right left' right' : List ℕ) (j : ℕ)
+pub read-held : (sheet : List ℕ) (s : Sheet) (answer : Read) (table' : List (List ℕ)) (left right left' right' : List
+    ℕ) (j : ℕ)
     → length left ≡ 1023 → length right ≡ 1023
     → Gives (judge sheet) answer table' left right left' right' → answer ≡ Sound s → j < s .columns
     → Held sheet s table' left' right' j
@@ -165,7 +172,8 @@ read-held sheet s answer table' left right left' right' j ll lr gives is inside 
       priced = holds .priced;
       lefts = first-put (s .nodes) left left' (lefts vine 0) (holds .nodes ∙ sym (lefts-long vine 0)) (holds .lefts)
           (let l = lefts-long vine 0 in omega arith);
-      rights = first-put (s .nodes) right right' (rights vine 0) (holds .nodes ∙ sym (rights-long vine 0)) (holds .rights)
+      rights = first-put (s .nodes) right right' (rights vine 0) (holds .nodes ∙ sym (rights-long vine 0)) (holds
+          .rights)
           (let l = rights-long vine 0 in omega arith);
       inside = omega arith;
     }
@@ -177,7 +185,8 @@ read-held sheet s answer table' left right left' right' j ll lr gives is inside 
         omega arith
 
 -- the fault that the reader answers with, and its line
-pub read-fault : (sheet : List ℕ) (f : Fault) (answer : Read) (table' : List (List ℕ)) (left right left' right' : List ℕ)
+pub read-fault : (sheet : List ℕ) (f : Fault) (answer : Read) (table' : List (List ℕ)) (left right left' right' :
+    List ℕ)
     → Gives (judge sheet) answer table' left right left' right' → answer ≡ Faulty f → judge sheet ≡ faulty f
 read-fault sheet f answer table' left right left' right' gives is =
     subst (λ a. GivesFor (judge sheet) a table' left right left' right') is (gives .gives)
@@ -203,7 +212,8 @@ module _ (line out : List ℕ) (n : ℕ) (hl : n ≤ length line) (ho : n ≤ le
   pub copied-inside : (i : ℕ) (now : List ℕ) → Copied line out n i now → i < n → i < length now
   copied-inside i now c low = let same = copied-same i now c in omega arith
 
-  pub copied-more : (i : ℕ) (now : List ℕ) → Copied line out n i now → i < n → Copied line out n (i + 1) (set now i (getD line i 0))
+  pub copied-more : (i : ℕ) (now : List ℕ) → Copied line out n i now → i < n → Copied line out n (i + 1) (set now i
+      (getD line i 0))
   copied-more i now c low =
       record {
         few = omega arith;
@@ -220,8 +230,10 @@ pub copied-none : (line out : List ℕ) (n : ℕ) → Copied line out n 0 out
 copied-none line out n = record { few = omega arith; is = refl }
 
 -- no such column
-pub read-which : (sheet : List ℕ) (s : Sheet) (answer : Read) (table' : List (List ℕ)) (left right left' right' : List ℕ)
-    (j : ℕ) (out : List ℕ) → Gives (judge sheet) answer table' left right left' right' → answer ≡ Sound s → s .columns ≤ j
+pub read-which : (sheet : List ℕ) (s : Sheet) (answer : Read) (table' : List (List ℕ)) (left right left' right' :
+    List ℕ)
+    (j : ℕ) (out : List ℕ) → Gives (judge sheet) answer table' left right left' right' → answer ≡ Sound s → s
+    .columns ≤ j
     → Entered sheet j out 6 out
 read-which sheet s answer table' left right left' right' j out gives is over =
     let holds = read-sound sheet s answer table' left right left' right' gives is in

@@ -1,4 +1,5 @@
--- What is read is what the text denotes, whatever is denoted within the depth is read, and a text denotes at most one tree.
+-- What is read is what the text denotes, whatever is denoted within the depth is read, and a text denotes at most one
+-- tree.
 -- Assumes nothing.
 use mathlib.Core.Bool.{Bool, true, false}
 use mathlib.Core.List.{List}
@@ -32,18 +33,22 @@ deep-pair : (a b : Vine) (d : ℕ) → deep (pair a b) ≤ suc d → (deep a ≤
 unfolding deep greater
 deep-pair a b d h =
     by-lt (deep a) (deep b)
-    (λ less. let most : pick (ltb (deep a) (deep b)) (deep b) (deep a) ≡ deep b = pick-true (deep b) (deep a) (lt-ltb _ _ less) in
+    (λ less. let most : pick (ltb (deep a) (deep b)) (deep b) (deep a) ≡ deep b = pick-true (deep b) (deep a) (lt-ltb
+    _ _ less) in
     (omega arith, omega arith))
-    (λ more. let most : pick (ltb (deep a) (deep b)) (deep b) (deep a) ≡ deep a = pick-false (deep b) (deep a) (le-ltb _ _ more) in
+    (λ more. let most : pick (ltb (deep a) (deep b)) (deep b) (deep a) ≡ deep a = pick-false (deep b) (deep a)
+    (le-ltb _ _ more) in
     (omega arith, omega arith))
 
 deep-most : (a b : Vine) (d : ℕ) → deep a ≤ d → deep b ≤ d → deep (pair a b) ≤ suc d
 unfolding deep greater
 deep-most a b d h k =
     by-lt (deep a) (deep b)
-    (λ less. let most : pick (ltb (deep a) (deep b)) (deep b) (deep a) ≡ deep b = pick-true (deep b) (deep a) (lt-ltb _ _ less) in
+    (λ less. let most : pick (ltb (deep a) (deep b)) (deep b) (deep a) ≡ deep b = pick-true (deep b) (deep a) (lt-ltb
+    _ _ less) in
     omega arith)
-    (λ more. let most : pick (ltb (deep a) (deep b)) (deep b) (deep a) ≡ deep a = pick-false (deep b) (deep a) (le-ltb _ _ more) in
+    (λ more. let most : pick (ltb (deep a) (deep b)) (deep b) (deep a) ≡ deep a = pick-false (deep b) (deep a)
+    (le-ltb _ _ more) in
     omega arith)
 
 module _ (sheet names : List ℕ) (t : ℕ) (named : t ≤ length names) where
@@ -160,7 +165,8 @@ module _ (sheet names : List ℕ) (t : ℕ) (named : t ≤ length names) (differ
 
   module _ (few : t ≤ 512) where
     -- Whatever is denoted within the depth, with names that have not been met, is read.
-    pub denotes-read : (v : Vine) (d : ℕ) (marks : List ℕ) (i e : ℕ) → IsMarks marks → Denotes sheet names t v i e → deep v ≤ d
+    pub denotes-read : (v : Vine) (d : ℕ) (marks : List ℕ) (i e : ℕ) → IsMarks marks → Denotes sheet names t v i e →
+        deep v ≤ d
         → isNameByte (getD sheet e 0) ≡ false → ((r : ℕ) → getD marks r 0 + occurs r v ≤ 1)
         → (marks' : List ℕ) × (treeOf sheet names t d marks i ≡ got v e marks')
     unfolding occurs deep

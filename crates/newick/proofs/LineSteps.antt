@@ -51,7 +51,8 @@ module _ (sheet names : List ℕ) (t at end : ℕ) where
     -- it has at most 1,023 nodes
     pub line-nodes : t ≤ 512 → t ≤ length names → n ≤ 1023
     line-nodes few named =
-        let sized = tree-of-sized sheet names t few named 128 (unmarked 512) unmarked-marks at (tree .vine) e marks' (tree .is) in
+        let sized = tree-of-sized sheet names t few named 128 (unmarked 512) unmarked-marks at (tree .vine) e marks'
+        (tree .is) in
         let most = met-few marks' (sized .known) in
         let more = sized .more in
         let none = unmarked-met in
@@ -82,7 +83,8 @@ module _ (sheet names : List ℕ) (t at end : ℕ) where
         line-missing ne =
             let count = tree .count in
             line-next
-            ∙ pick-false _ _ (ap₂ both (eq-eqb (e + 1) end last) (ne-eqb (size (tree .vine) + 1) (2 * t) (λ p. ne (omega arith))))
+            ∙ pick-false _ _ (ap₂ both (eq-eqb (e + 1) end last) (ne-eqb (size (tree .vine) + 1) (2 * t) (λ p. ne
+            (omega arith))))
 
         pub line-got : n + 1 ≡ 2 * t → GotLine (lineTree sheet names t at end) left right e n left' right'
         unfolding both
@@ -93,7 +95,8 @@ module _ (sheet names : List ℕ) (t at end : ℕ) where
               line = record {
                 vine = tree .vine;
                 is = line-next
-                    ∙ pick-true _ _ (ap₂ both (eq-eqb (e + 1) end last) (eq-eqb (size (tree .vine) + 1) (2 * t) (omega arith)));
+                    ∙ pick-true _ _ (ap₂ both (eq-eqb (e + 1) end last) (eq-eqb (size (tree .vine) + 1) (2 * t)
+                    (omega arith)));
                 count = tree .count;
                 lefts = tree .lefts;
                 rights = tree .rights;

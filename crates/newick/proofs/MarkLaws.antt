@@ -28,7 +28,8 @@ unmarked-row r =
     let none : ℕ = 0 in
     let long : length (replicate 512 none) ≡ 512 = length-replicate 512 none in
     by-lt r 512 (λ h. getD-replicate 512 r none none h)
-    (λ h. let over : length (replicate 512 none) ≤ r = omega arith in List·getD-eq-default (replicate 512 none) none over)
+    (λ h. let over : length (replicate 512 none) ≤ r = omega arith in List·getD-eq-default (replicate 512 none) none
+    over)
 
 pub unmarked-marks : IsMarks (unmarked 512)
 unfolding unmarked

@@ -20,7 +20,20 @@ use Rattle.lines.proofs.ByteLaws.{both-true, text-on, text-end, every-on}
 use Rattle.names.specs.Name.{isNameByte}
 use Rattle.newick.specs.Denotes.{IsName, Different}
 use Rattle.newick.specs.Token.{tokenEnd, isLineOf, rowOf}
-use Rattle.newick.proofs.TokenLaws.{token-more, token-stop, token-end, token-from, token-within, searchFrom, search-begin, search-found, search-more, search-none, nowhere-at, at-same}
+use Rattle.newick.proofs.TokenLaws.{
+  token-more,
+  token-stop,
+  token-end,
+  token-from,
+  token-within,
+  searchFrom,
+  search-begin,
+  search-found,
+  search-more,
+  search-none,
+  nowhere-at,
+  at-same,
+}
 
 -- where a word is found, the bytes begin with it
 word-begins : (word bytes : List ℕ) (i stop : ℕ) → wordIn word bytes i ≡ At stop
@@ -32,7 +45,8 @@ word-begins (letter ∷ word) (byte ∷ bytes) i stop h =
     go (eqb byte letter) refl h (λ g. word-begins word bytes (i + 1) stop g)
   where
     go : (b : Bool) → eqb byte letter ≡ b → pick b (wordIn word bytes (i + 1)) Nowhere ≡ At stop
-        → (wordIn word bytes (i + 1) ≡ At stop → (rest : List ℕ) × (bytes ≡ word ++ rest) × (stop ≡ i + 1 + length word))
+        → (wordIn word bytes (i + 1) ≡ At stop → (rest : List ℕ) × (bytes ≡ word ++ rest) × (stop ≡ i + 1 + length
+        word))
         → (rest : List ℕ) × (byte ∷ bytes ≡ letter ∷ (word ++ rest)) × (stop ≡ i + suc (length word))
     go true y g more =
         let (rest, same, place) = more (sym (pick-true (wordIn word bytes (i + 1)) Nowhere refl) ∙ g) in
@@ -50,7 +64,8 @@ word-found (letter ∷ word) rest i =
 
 module _ (sheet : List ℕ) (i e place : ℕ) where
   -- the test of a line says that the line at a place is the text
-  pub line-told : isLineOf sheet i e place ≡ true → (after : List ℕ) × (drop place sheet ≡ textOf sheet i e ++ (10 ∷ after))
+  pub line-told : isLineOf sheet i e place ≡ true → (after : List ℕ) × (drop place sheet ≡ textOf sheet i e ++ (10 ∷
+      after))
   unfolding isLineOf onPlace wordOf
   line-told h = go (wordOf (textOf sheet i e) sheet place) refl h
     where
@@ -58,7 +73,8 @@ module _ (sheet : List ℕ) (i e place : ℕ) where
       stop-is [] z = absurd (let y : _≡_ {A = ℕ} 0 10 = z in omega arith)
       stop-is (byte ∷ after) z = (after, ap (λ b. b ∷ after) z)
 
-      go : (p : Place) → wordOf (textOf sheet i e) sheet place ≡ p → onPlace p false (λ stop. eqb (getD sheet stop 0) 10) ≡ true
+      go : (p : Place) → wordOf (textOf sheet i e) sheet place ≡ p → onPlace p false (λ stop. eqb (getD sheet stop 0)
+          10) ≡ true
           → (after : List ℕ) × (drop place sheet ≡ textOf sheet i e ++ (10 ∷ after))
       go Nowhere w g = absurd (let z : _≡_ {A = ℕ} 0 1 = cc in omega arith)
       go (At stop) w g =
@@ -95,7 +111,8 @@ by-test false f g = g refl
 
 module _ (sheet : List ℕ) where
   -- every byte of a name may stand in one
-  token-plain : (d i : ℕ) → tokenEnd sheet i ≡ i + d → i + d ≤ length sheet → every isNameByte (textOf sheet i (i + d)) ≡ true
+  token-plain : (d i : ℕ) → tokenEnd sheet i ≡ i + d → i + d ≤ length sheet → every isNameByte (textOf sheet i (i +
+      d)) ≡ true
   unfolding every
   token-plain zero i h l = ap (every isNameByte) (text-end sheet i (i + 0) (omega arith) l)
   token-plain (suc d) i h l =
@@ -147,7 +164,8 @@ module _ (sheet : List ℕ) where
         → ((p : ℕ) → p < t → isLineOf sheet i e (getD names p 0) ≡ true → p ≡ r) → searchFrom sheet names t i e q ≡ At r
     row-sought zero q r same low y only =
         let here : q ≡ r = omega arith in
-        search-found sheet names t i e q few (omega arith) (ap (λ k. isLineOf sheet i e (getD names k 0)) here ∙ y) ∙ ap At here
+        search-found sheet names t i e q few (omega arith) (ap (λ k. isLineOf sheet i e (getD names k 0)) here ∙ y) ∙
+        ap At here
     row-sought (suc d) q r same low y only =
         by-test (isLineOf sheet i e (getD names q 0))
         (λ z. absurd (let e = only q (omega arith) z in omega arith))
@@ -181,7 +199,8 @@ module _ (sheet : List ℕ) where
       }
 
   -- and a name by the grammar, with no byte of a name after it, is read so
-  pub name-reads : (names : List ℕ) (t i e r : ℕ) → t ≤ length names → Different sheet names t → IsName sheet names t r i e
+  pub name-reads : (names : List ℕ) (t i e r : ℕ) → t ≤ length names → Different sheet names t → IsName sheet names t
+      r i e
       → isNameByte (getD sheet e 0) ≡ false
       → (tokenEnd sheet i ≡ e) × (rowOf sheet names t i e ≡ At r)
   name-reads names t i e r few different is stop =
@@ -194,6 +213,11 @@ module _ (sheet : List ℕ) where
         end ∙ same,
         row-is names t i e few r (is .row) (line-is sheet i e (getD names r 0) (is .name .after) (is .name .line))
             (λ p low y. let (after, line) = line-told sheet i e (getD names p 0) y in
-            different .rows p r (textOf sheet i e) low (is .row) (record { after = after; line = line; plain = is .name .plain })
+            different .rows p r (textOf sheet i e) low (is .row) (record {
+              after = after;
+              line = line;
+              plain = is
+                  .name .plain;
+            })
             (is .name)),
       )

@@ -21,7 +21,16 @@ use Rattle.newick.specs.Parse.{Parsed, got, noTree, tipOf, pairBy, treeB
 use Rattle.newick.specs.Token.{tokenEnd}
 use Rattle.newick.specs.Vine.{Vine, tip, pair, size, occurs}
 use Rattle.newick.proofs.MarkLaws.{unmarked-marks, open-mark}
-use Rattle.newick.proofs.SizeLaws.{none-got, got-same, on-parsed, on-byte, tip-from, pair-from, tree-from, tip-sized}
+use Rattle.newick.proofs.SizeLaws.{
+  none-got,
+  got-same,
+  on-parsed,
+  on-byte,
+  tip-from,
+  pair-from,
+  tree-from,
+  tip-sized,
+}
 use Rattle.newick.proofs.TableLaws.{Rows, size-tip, size-pair, vine-legal, vine-tips, vine-handed}
 use Rattle.newick.specs.Nodes.{lefts, rights}
 use Rattle.parsimony.specs.Table.{symbol, handed, nodeAt, tips, Legal}
@@ -37,7 +46,8 @@ module _ (sheet names : List ℕ) (t : ℕ) (few : t ≤ 512) (named : t ≤ len
   -- what is shown of a reader
   abbrev Shows : (List ℕ → ℕ → Parsed) → Type 0
   Shows reader =
-      (marks : List ℕ) → IsMarks marks → (i : ℕ) (vine : Vine) (e : ℕ) (marks' : List ℕ) → reader marks i ≡ got vine e marks'
+      (marks : List ℕ) → IsMarks marks → (i : ℕ) (vine : Vine) (e : ℕ) (marks' : List ℕ) → reader marks i ≡ got vine
+      e marks'
       → Once t marks vine marks' × IsMarks marks'
 
   tip-once : Shows (tipOf sheet names t)
@@ -89,7 +99,8 @@ module _ (sheet names : List ℕ) (t : ℕ) (few : t ≤ 512) (named : t ≤ len
   unfolding pairOf
   pair-of-once zero marks known i vine e marks' h = absurd (none-got h)
   pair-of-once (suc depth) marks known i vine e marks' h =
-      pair-once (treeBy sheet names t (pairOf sheet names t depth)) (tree-once (pairOf sheet names t depth) (pair-of-once depth))
+      pair-once (treeBy sheet names t (pairOf sheet names t depth)) (tree-once (pairOf sheet names t depth)
+      (pair-of-once depth))
       marks known i vine e marks' h
 
   pub tree-of-once : (depth : ℕ) → Shows (treeOf sheet names t depth)
@@ -125,8 +136,10 @@ line-from sheet names t at end vine e marks h =
     let (stop, h₂) = on-byte sheet (code ";") f _ vine e marks h₁ in
     go v f m tree stop (both (eqb (f + 1) end) (eqb (size v + 1) (2 * t))) refl h₂
   where
-    go : (v : Vine) (f : ℕ) (m : List ℕ) → treeOf sheet names t 128 (unmarked 512) at ≡ got v f m → getD sheet f 0 ≡ code ";"
-        → (b : Bool) → both (eqb (f + 1) end) (eqb (size v + 1) (2 * t)) ≡ b → pick b (got v f m) noTree ≡ got vine e marks
+    go : (v : Vine) (f : ℕ) (m : List ℕ) → treeOf sheet names t 128 (unmarked 512) at ≡ got v f m → getD sheet f 0 ≡
+        code ";"
+        → (b : Bool) → both (eqb (f + 1) end) (eqb (size v + 1) (2 * t)) ≡ b → pick b (got v f m) noTree ≡ got vine e
+        marks
         → LineFrom sheet names t at end vine e marks
     go v f m tree stop false y g = absurd (none-got (sym (pick-false (got v f m) noTree refl) ∙ g))
     go v f m tree stop true y g =

@@ -46,11 +46,13 @@ gives-same {p} {q} {n} {left} {right} {answer} {left'} {right'} {marks'} e g =
 
 module _ (sheet names : List ℕ) (t depth : ℕ) (marks : List ℕ) (i : ℕ) where
   -- a tree that starts with a bracket is a pair, and any other a name
-  pub tree-pair : eqb (getD sheet i 0) (code "(") ≡ true → pairOf sheet names t depth marks i ≡ treeOf sheet names t depth marks i
+  pub tree-pair : eqb (getD sheet i 0) (code "(") ≡ true → pairOf sheet names t depth marks i ≡ treeOf sheet names t
+      depth marks i
   unfolding treeOf treeBy
   tree-pair y = sym (pick-true _ _ y)
 
-  pub tree-name : eqb (getD sheet i 0) (code "(") ≡ false → tipOf sheet names t marks i ≡ treeOf sheet names t depth marks i
+  pub tree-name : eqb (getD sheet i 0) (code "(") ≡ false → tipOf sheet names t marks i ≡ treeOf sheet names t depth
+      marks i
   unfolding treeOf treeBy
   tree-name n = sym (pick-false _ _ n)
 
@@ -73,11 +75,13 @@ module _ (sheet names : List ℕ) (t depth : ℕ) (marks : List ℕ) (i : ℕ) w
     pair-open = let next : depth ≡ suc (depth - 1) = omega arith in ap (λ d. pairOf sheet names t d marks i) next
 
     -- no pair without a first tree
-    pub pair-first : treeOf sheet names t (depth - 1) marks (i + 1) ≡ noTree → pairOf sheet names t depth marks i ≡ noTree
+    pub pair-first : treeOf sheet names t (depth - 1) marks (i + 1) ≡ noTree → pairOf sheet names t depth marks i ≡
+        noTree
     unfolding pairBy onParsed
     pair-first none = pair-open ∙ ap (λ p. onParsed p afterFirst) none
 
-    module _ (a : Vine) (k : ℕ) (marks₁ : List ℕ) (first : treeOf sheet names t (depth - 1) marks (i + 1) ≡ got a k marks₁) where
+    module _ (a : Vine) (k : ℕ) (marks₁ : List ℕ) (first : treeOf sheet names t (depth - 1) marks (i + 1) ≡ got a k
+        marks₁) where
       pair-on : pairOf sheet names t depth marks i ≡ afterFirst a k marks₁
       unfolding pairBy onParsed
       pair-on = pair-open ∙ ap (λ p. onParsed p afterFirst) first
@@ -94,7 +98,8 @@ module _ (sheet names : List ℕ) (t depth : ℕ) (marks : List ℕ) (i : ℕ) w
         pair-next = pair-on ∙ pick-true _ _ comma
 
         -- nor without a second tree
-        pub pair-second : treeOf sheet names t (depth - 1) marks₁ (k + 1) ≡ noTree → pairOf sheet names t depth marks i ≡ noTree
+        pub pair-second : treeOf sheet names t (depth - 1) marks₁ (k + 1) ≡ noTree → pairOf sheet names t depth marks
+            i ≡ noTree
         unfolding onParsed
         pair-second none = pair-next ∙ ap (λ p. onParsed p (afterSecond a)) none
 
@@ -165,7 +170,8 @@ module _ (sheet names : List ℕ) (t depth n : ℕ) (left right marks : List ℕ
   -- after the first tree the second may be read
   pub second-ready : Ready names t a left₁ right₁ marks₁
   second-ready =
-      let sized = tree-of-sized sheet names t (ready .few) (ready .named) depth marks (ready .known) i (one .vine) k marks₁ (one .is) in
+      let sized = tree-of-sized sheet names t (ready .few) (ready .named) depth marks (ready .known) i (one .vine) k
+      marks₁ (one .is) in
       let more = sized .more in
       let made = ready .made in
       let count = one .count in
@@ -183,8 +189,10 @@ module _ (sheet names : List ℕ) (t depth n : ℕ) (left right marks : List ℕ
     -- and after both there is room for the pair
     pub pair-room : (1 ≤ a) × (1 ≤ b) × (a ≤ b) × (b < 1023)
     pair-room =
-        let sized = tree-of-sized sheet names t (ready .few) (ready .named) depth marks₁ (second-ready .known) j (two .vine) m marks₂ (two .is) in
-        let before = tree-of-sized sheet names t (ready .few) (ready .named) depth marks (ready .known) i (one .vine) k marks₁ (one .is) .more in
+        let sized = tree-of-sized sheet names t (ready .few) (ready .named) depth marks₁ (second-ready .known) j (two
+        .vine) m marks₂ (two .is) in
+        let before = tree-of-sized sheet names t (ready .few) (ready .named) depth marks (ready .known) i (one .vine)
+        k marks₁ (one .is) .more in
         let few = met-few marks₂ (sized .known) in
         let more = sized .more in
         let made = ready .made in
@@ -195,7 +203,8 @@ module _ (sheet names : List ℕ) (t depth n : ℕ) (left right marks : List ℕ
         (omega arith, omega arith, omega arith, omega arith)
 
     -- the two trees and the pair's own node
-    pub pair-got : (parsed : Parsed) (x y e : ℕ) (left₃ right₃ marks₃ : List ℕ) → parsed ≡ got (pair (one .vine) (two .vine)) e marks₂
+    pub pair-got : (parsed : Parsed) (x y e : ℕ) (left₃ right₃ marks₃ : List ℕ) → parsed ≡ got (pair (one .vine) (two
+        .vine)) e marks₂
         → x ≡ a - 1 → y ≡ b - 1 → left₃ ≡ set left₂ b x → right₃ ≡ set right₂ b y → marks₃ ≡ marks₂
         → Got parsed n left right e (b + 1) left₃ right₃ marks₃
     unfolding lefts rights size
@@ -210,7 +219,8 @@ module _ (sheet names : List ℕ) (t depth n : ℕ) (left right marks : List ℕ
           vine = pair (one .vine) (two .vine);
           is = is ∙ ap (got (pair (one .vine) (two .vine)) e) (sym em);
           count = omega arith;
-          lefts = join-sets left n (lefts (one .vine) n) (lefts (two .vine) (n + size (one .vine))) (n + size (one .vine) - 1) a b
+          lefts = join-sets left n (lefts (one .vine) n) (lefts (two .vine) (n + size (one .vine))) (n + size (one
+              .vine) - 1) a b
               left₁ left₂ left₃ (one .lefts) (omega arith) (two .lefts ∙ ap (λ i. sets left₁ a (lefts (two .vine) i)) p)
               (omega arith) (el ∙ ap (set left₂ b) (ex ∙ ap (λ i. i - 1) p));
           rights = join-sets right n (rights (one .vine) n) (rights (two .vine) (n + size (one .vine)))

@@ -26,24 +26,28 @@ pub none-got : {v : Vine} {e : ℕ} {m : List ℕ} → noTree ≡ got v e m → 
 none-got h = let z : _≡_ {A = ℕ} 0 1 = cc in omega arith
 
 -- what a tree that goes on came from
-pub on-parsed : (p : Parsed) (go : Vine → ℕ → List ℕ → Parsed) (v : Vine) (e : ℕ) (m : List ℕ) → onParsed p go ≡ got v e m
+pub on-parsed : (p : Parsed) (go : Vine → ℕ → List ℕ → Parsed) (v : Vine) (e : ℕ) (m : List ℕ) → onParsed p go ≡ got
+    v e m
     → (v₁ : Vine) × (e₁ : ℕ) × (m₁ : List ℕ) × (p ≡ got v₁ e₁ m₁) × (go v₁ e₁ m₁ ≡ got v e m)
 unfolding onParsed
 on-parsed (got v₁ e₁ m₁) go v e m h = (v₁, e₁, m₁, refl, h)
 on-parsed noTree go v e m h = absurd (none-got h)
 
 -- and a byte that it went over
-pub on-byte : (sheet : List ℕ) (byte i : ℕ) (p : Parsed) (v : Vine) (e : ℕ) (m : List ℕ) → onByte sheet byte i p ≡ got v e m
+pub on-byte : (sheet : List ℕ) (byte i : ℕ) (p : Parsed) (v : Vine) (e : ℕ) (m : List ℕ) → onByte sheet byte i p ≡
+    got v e m
     → (getD sheet i 0 ≡ byte) × (p ≡ got v e m)
 unfolding onByte
 on-byte sheet byte i p v e m h = go (eqb (getD sheet i 0) byte) refl h
   where
-    go : (b : Bool) → eqb (getD sheet i 0) byte ≡ b → pick b p noTree ≡ got v e m → (getD sheet i 0 ≡ byte) × (p ≡ got v e m)
+    go : (b : Bool) → eqb (getD sheet i 0) byte ≡ b → pick b p noTree ≡ got v e m → (getD sheet i 0 ≡ byte) × (p ≡
+        got v e m)
     go true y g = (eqb-true (getD sheet i 0) byte y, sym (pick-true p noTree refl) ∙ g)
     go false n g = absurd (none-got (sym (pick-false p noTree refl) ∙ g))
 
 -- what a name that is read came from
-pub record TipFrom (sheet names : List ℕ) (t : ℕ) (marks : List ℕ) (i : ℕ) (vine : Vine) (e : ℕ) (marks' : List ℕ) : Type 0 where
+pub record TipFrom (sheet names : List ℕ) (t : ℕ) (marks : List ℕ) (i : ℕ) (vine : Vine) (e : ℕ) (marks' : List ℕ) :
+    Type 0 where
   pub row : ℕ
   pub some : tokenEnd sheet i ≡ i → ⊥
   pub found : rowOf sheet names t i (tokenEnd sheet i) ≡ At row
@@ -64,7 +68,8 @@ tip-from sheet names t marks i vine e marks' h = token (eqb (tokenEnd sheet i) i
     end = tokenEnd sheet i
 
     mark : (r : ℕ) → rowOf sheet names t i end ≡ At r → (tokenEnd sheet i ≡ i → ⊥) → (b : Bool) → isMarked marks r ≡ b
-        → pick b noTree (got (tip r) end (marked marks r)) ≡ got vine e marks' → TipFrom sheet names t marks i vine e marks'
+        → pick b noTree (got (tip r) end (marked marks r)) ≡ got vine e marks' → TipFrom sheet names t marks i vine e
+        marks'
     mark r found some true y g = absurd (none-got (sym (pick-true noTree (got (tip r) end (marked marks r)) refl) ∙ g))
     mark r found some false y g =
         let (v, f, m) = got-same (sym (pick-false noTree (got (tip r) end (marked marks r)) refl) ∙ g) in
@@ -77,16 +82,19 @@ tip-from sheet names t marks i vine e marks' h = token (eqb (tokenEnd sheet i) i
     place Nowhere found some g = absurd (none-got g)
 
     some : Parsed
-    some = onPlace (rowOf sheet names t i end) noTree (λ r. pick (isMarked marks r) noTree (got (tip r) end (marked marks r)))
+    some = onPlace (rowOf sheet names t i end) noTree (λ r. pick (isMarked marks r) noTree (got (tip r) end (marked
+        marks r)))
 
     token : (b : Bool) → eqb (tokenEnd sheet i) i ≡ b → pick b noTree some ≡ got vine e marks'
         → TipFrom sheet names t marks i vine e marks'
     token true y g = absurd (none-got (sym (pick-true noTree some refl) ∙ g))
     token false y g =
-        place (rowOf sheet names t i end) refl (eqb-false (tokenEnd sheet i) i y) (sym (pick-false noTree some refl) ∙ g)
+        place (rowOf sheet names t i end) refl (eqb-false (tokenEnd sheet i) i y) (sym (pick-false noTree some refl)
+        ∙ g)
 
 -- what a pair that is read came from
-pub record PairFrom (sheet : List ℕ) (sub : List ℕ → ℕ → Parsed) (marks : List ℕ) (i : ℕ) (vine : Vine) (e : ℕ) (marks' : List ℕ)
+pub record PairFrom (sheet : List ℕ) (sub : List ℕ → ℕ → Parsed) (marks : List ℕ) (i : ℕ) (vine : Vine) (e : ℕ)
+    (marks' : List ℕ)
     : Type 0 where
   pub a : Vine
   pub b : Vine
@@ -100,7 +108,8 @@ pub record PairFrom (sheet : List ℕ) (sub : List ℕ → ℕ → Parsed) (mark
   pub is : vine ≡ pair a b
   pub after : e ≡ m + 1
 
-pub pair-from : (sheet names : List ℕ) (t : ℕ) (sub : List ℕ → ℕ → Parsed) (marks : List ℕ) (i : ℕ) (vine : Vine) (e : ℕ)
+pub pair-from : (sheet names : List ℕ) (t : ℕ) (sub : List ℕ → ℕ → Parsed) (marks : List ℕ) (i : ℕ) (vine : Vine) (e
+    : ℕ)
     (marks' : List ℕ) → pairBy sheet names t sub marks i ≡ got vine e marks' → PairFrom sheet sub marks i vine e marks'
 unfolding pairBy
 pair-from sheet names t sub marks i vine e marks' h =
@@ -126,12 +135,14 @@ pair-from sheet names t sub marks i vine e marks' h =
 -- what a tree that is read came from: a pair or a name
 pub tree-from : (sheet names : List ℕ) (t : ℕ) (pairAt : List ℕ → ℕ → Parsed) (marks : List ℕ) (i : ℕ) (p : Parsed)
     → treeBy sheet names t pairAt marks i ≡ p
-    → ((getD sheet i 0 ≡ code "(") × (pairAt marks i ≡ p)) ⊎ ((getD sheet i 0 ≡ code "(" → ⊥) × (tipOf sheet names t marks i ≡ p))
+    → ((getD sheet i 0 ≡ code "(") × (pairAt marks i ≡ p)) ⊎ ((getD sheet i 0 ≡ code "(" → ⊥) × (tipOf sheet names t
+    marks i ≡ p))
 unfolding treeBy
 tree-from sheet names t pairAt marks i p h = go (eqb (getD sheet i 0) (code "(")) refl h
   where
     go : (b : Bool) → eqb (getD sheet i 0) (code "(") ≡ b → pick b (pairAt marks i) (tipOf sheet names t marks i) ≡ p
-        → ((getD sheet i 0 ≡ code "(") × (pairAt marks i ≡ p)) ⊎ ((getD sheet i 0 ≡ code "(" → ⊥) × (tipOf sheet names t marks i ≡ p))
+        → ((getD sheet i 0 ≡ code "(") × (pairAt marks i ≡ p)) ⊎ ((getD sheet i 0 ≡ code "(" → ⊥) × (tipOf sheet
+        names t marks i ≡ p))
     go true y g = inl (eqb-true _ _ y, sym (pick-true (pairAt marks i) (tipOf sheet names t marks i) refl) ∙ g)
     go false y g = inr (eqb-false _ _ y, sym (pick-false (pairAt marks i) (tipOf sheet names t marks i) refl) ∙ g)
 
@@ -157,7 +168,8 @@ module _ (sheet names : List ℕ) (t : ℕ) (few : t ≤ 512) (named : t ≤ len
       }
 
   pair-sized : (sub : List ℕ → ℕ → Parsed)
-      → ((marks : List ℕ) → IsMarks marks → (i : ℕ) (vine : Vine) (e : ℕ) (marks' : List ℕ) → sub marks i ≡ got vine e marks'
+      → ((marks : List ℕ) → IsMarks marks → (i : ℕ) (vine : Vine) (e : ℕ) (marks' : List ℕ) → sub marks i ≡ got vine
+      e marks'
       → Sized marks vine marks')
       → (marks : List ℕ) → IsMarks marks → (i : ℕ) (vine : Vine) (e : ℕ) (marks' : List ℕ)
       → pairBy sheet names t sub marks i ≡ got vine e marks' → Sized marks vine marks'
@@ -172,7 +184,8 @@ module _ (sheet names : List ℕ) (t : ℕ) (few : t ≤ 512) (named : t ≤ len
       record { known = two .known; more = omega arith }
 
   tree-sized : (pairAt : List ℕ → ℕ → Parsed)
-      → ((marks : List ℕ) → IsMarks marks → (i : ℕ) (vine : Vine) (e : ℕ) (marks' : List ℕ) → pairAt marks i ≡ got vine e marks'
+      → ((marks : List ℕ) → IsMarks marks → (i : ℕ) (vine : Vine) (e : ℕ) (marks' : List ℕ) → pairAt marks i ≡ got
+      vine e marks'
       → Sized marks vine marks')
       → (marks : List ℕ) → IsMarks marks → (i : ℕ) (vine : Vine) (e : ℕ) (marks' : List ℕ)
       → treeBy sheet names t pairAt marks i ≡ got vine e marks' → Sized marks vine marks'

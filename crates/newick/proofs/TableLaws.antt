@@ -8,7 +8,22 @@ use native.Mathlib.Omega.{arith}
 use lib.ListN.{length, getD, List·getD-append}
 use lib.Seq.{getD-append-add}
 use Rattle.parsimony.specs.Sum.{sum}
-use Rattle.parsimony.specs.Table.{Kind, symbol, handed, Node, leaf, inner, kidsOf, nodeAt, isTip, names, tips, rowUses, TreeRules, Legal}
+use Rattle.parsimony.specs.Table.{
+  Kind,
+  symbol,
+  handed,
+  Node,
+  leaf,
+  inner,
+  kidsOf,
+  nodeAt,
+  isTip,
+  names,
+  tips,
+  rowUses,
+  TreeRules,
+  Legal,
+}
 use Rattle.parsimony.specs.Test.{at}
 use Rattle.parsimony.specs.Tree.{Has, each, uses}
 use Rattle.parsimony.proofs.NodeLaws.{node-symbol, node-inner}
@@ -78,7 +93,8 @@ module _ (node : ℕ → Node) where
   -- how often the nodes of a tree name u as a child: once, where u is one of them but the last
   stood-unused : (v : Vine) (n u : ℕ) → Stood node v n → ((n ≤ u) → suc u < n + size v → ⊥)
       → over (λ p. each (at u 1) (kidsOf (node p))) n (size v) ≡ 0
-  stood-unused (tip r) n u st out = over-one (λ p. each (at u 1) (kidsOf (node p))) n r ∙ ap (λ x. each (at u 1) (kidsOf x)) st
+  stood-unused (tip r) n u st out = over-one (λ p. each (at u 1) (kidsOf (node p))) n r ∙ ap (λ x. each (at u 1)
+      (kidsOf x)) st
   stood-unused (pair a b) n u (sa, (sb, here)) out =
       let f : ℕ → ℕ = λ p. each (at u 1) (kidsOf (node p)) in
       let total = over-pair f n a b in
@@ -142,7 +158,8 @@ module _ (node : ℕ → Node) where
   -- how many are tips
   stood-tips : (v : Vine) (n : ℕ) → Stood node v n → 2 * over (λ p. isTip symbol (node p)) n (size v) ≡ size v + 1
   stood-tips (tip r) n st =
-      let one : over (λ p. isTip symbol (node p)) n (size (tip r)) ≡ 1 = over-one (λ p. isTip symbol (node p)) n r ∙ ap (isTip symbol) st in
+      let one : over (λ p. isTip symbol (node p)) n (size (tip r)) ≡ 1 = over-one (λ p. isTip symbol (node p)) n r ∙
+      ap (isTip symbol) st in
       let size-one = size-tip r in
       omega arith
   stood-tips (pair a b) n (sa, (sb, here)) =
@@ -188,7 +205,8 @@ module _ (node : ℕ → Node) where
       record {
         below = λ {v = p} {u} h c. child-below p u h c (node p) refl;
         apart = λ {v = p} {a} {b} h e. stood-inner v 0 p a b st (omega arith) (omega arith) e .2;
-        child = λ {u} h. from-zero (λ p. each (at u 1) (kidsOf (node p))) ∙ stood-used v 0 u st (omega arith) (omega arith);
+        child = λ {u} h. from-zero (λ p. each (at u 1) (kidsOf (node p))) ∙ stood-used v 0 u st (omega arith) (omega
+            arith);
         rows = rows;
       }
     where
@@ -258,11 +276,13 @@ module _ (left right : List ℕ) where
               ∙ at-second (rights a n) rr (size a) i (sym pa)
               ∙ at-first (rights b (n + size a)) ((n + size a + size b - 1) ∷ []) i (omega arith)),
           node-inner left right (n + size a + size b) (n + size a - 1) (n + size a + size b - 1) (omega arith)
-              ((let place : n + size a + size b ≡ n + (size a + (size b + 0)) = omega arith in ap (λ k. getD left k 0) place)
+              ((let place : n + size a + size b ≡ n + (size a + (size b + 0)) = omega arith in ap (λ k. getD left k
+              0) place)
               ∙ l (size a + (size b + 0)) (omega arith)
               ∙ at-second (lefts a n) ll (size a) (size b + 0) (sym la)
               ∙ at-second (lefts b (n + size a)) ((n + size a - 1) ∷ []) (size b) 0 (sym lb))
-              ((let place : n + size a + size b ≡ n + (size a + (size b + 0)) = omega arith in ap (λ k. getD right k 0) place)
+              ((let place : n + size a + size b ≡ n + (size a + (size b + 0)) = omega arith in ap (λ k. getD right k
+              0) place)
               ∙ s (size a + (size b + 0)) (omega arith)
               ∙ at-second (rights a n) rr (size a) (size b + 0) (sym pa)
               ∙ at-second (rights b (n + size a)) ((n + size a + size b - 1) ∷ []) (size b) 0 (sym pb)),
@@ -290,7 +310,8 @@ module _ (v : Vine) (t : ℕ) (rows : Rows t v) (few : t ≤ 512) (all : size v 
       let same = rights-long v 0 in
       record {
         size = record { equal = long ∙ sym same; odd = omega arith; most = omega arith };
-        tree = subst (λ n. TreeRules n (nodeAt left right)) (sym long) (stood-rules (nodeAt left right) v t stood all once);
+        tree = subst (λ n. TreeRules n (nodeAt left right)) (sym long) (stood-rules (nodeAt left right) v t stood all
+            once);
       }
 
   pub vine-tips : tips symbol (nodeAt left right) (length left) ≡ t
@@ -298,7 +319,8 @@ module _ (v : Vine) (t : ℕ) (rows : Rows t v) (few : t ≤ 512) (all : size v 
   vine-tips =
       let many = stood-tips (nodeAt left right) v 0 stood in
       let long = lefts-long v 0 in
-      let from-zero : sum (λ p. isTip symbol (nodeAt left right p)) (size v) ≡ over (λ p. isTip symbol (nodeAt left right p)) 0 (size v) =
+      let from-zero : sum (λ p. isTip symbol (nodeAt left right p)) (size v) ≡ over (λ p. isTip symbol (nodeAt left
+      right p)) 0 (size v) =
       sum-same (λ p. isTip symbol (nodeAt left right p)) _ (size v)
       (λ i h. let same : i ≡ 0 + i = omega arith in ap (λ p. isTip symbol (nodeAt left right p)) same) in
       ap (sum (λ p. isTip symbol (nodeAt left right p))) long ∙ omega arith
@@ -308,7 +330,8 @@ module _ (v : Vine) (t : ℕ) (rows : Rows t v) (few : t ≤ 512) (all : size v 
   vine-handed =
       let none = stood-handed (nodeAt left right) v 0 stood in
       let long = lefts-long v 0 in
-      let from-zero : sum (λ p. isTip handed (nodeAt left right p)) (size v) ≡ over (λ p. isTip handed (nodeAt left right p)) 0 (size v) =
+      let from-zero : sum (λ p. isTip handed (nodeAt left right p)) (size v) ≡ over (λ p. isTip handed (nodeAt left
+      right p)) 0 (size v) =
       sum-same (λ p. isTip handed (nodeAt left right p)) _ (size v)
       (λ i h. let same : i ≡ 0 + i = omega arith in ap (λ p. isTip handed (nodeAt left right p)) same) in
       ap (sum (λ p. isTip handed (nodeAt left right p))) long ∙ omega arith

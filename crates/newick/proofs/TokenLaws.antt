@@ -35,7 +35,8 @@ token-more sheet i h e =
     ∙ (let next : suc i ≡ i + 1 = omega arith in ap (λ k. tokenIn (drop k sheet) (i + 1)) next)
 
 -- and ends at one that may not
-pub token-stop : (sheet : List ℕ) (i : ℕ) → i < length sheet → isNameByte (getD sheet i 0) ≡ false → tokenEnd sheet i ≡ i
+pub token-stop : (sheet : List ℕ) (i : ℕ) → i < length sheet → isNameByte (getD sheet i 0) ≡ false → tokenEnd sheet i
+    ≡ i
 unfolding tokenEnd tokenIn
 token-stop sheet i h none = ap (λ bytes. tokenIn bytes i) (drop-cons sheet i 0 h) ∙ pick-false _ _ none
 
@@ -116,13 +117,15 @@ module _ (sheet names : List ℕ) (t i e r : ℕ) (few : t ≤ length names) whe
   pub search-found : r < t → isLineOf sheet i e (getD names r 0) ≡ true → searchFrom sheet names t i e r ≡ At r
   unfolding searchFrom
   search-found h y =
-      ap (λ l. findIn sheet i e l r) (taken h) ∙ find-step sheet i e (getD names r 0) (drop (r + 1) (take t names)) r ∙ pick-true _ _ y
+      ap (λ l. findIn sheet i e l r) (taken h) ∙ find-step sheet i e (getD names r 0) (drop (r + 1) (take t names)) r
+      ∙ pick-true _ _ y
 
   pub search-more : r < t → isLineOf sheet i e (getD names r 0) ≡ false
       → searchFrom sheet names t i e r ≡ searchFrom sheet names t i e (r + 1)
   unfolding searchFrom
   search-more h n =
-      ap (λ l. findIn sheet i e l r) (taken h) ∙ find-step sheet i e (getD names r 0) (drop (r + 1) (take t names)) r ∙ pick-false _ _ n
+      ap (λ l. findIn sheet i e l r) (taken h) ∙ find-step sheet i e (getD names r 0) (drop (r + 1) (take t names)) r
+      ∙ pick-false _ _ n
 
   pub search-none : t ≤ r → searchFrom sheet names t i e r ≡ Nowhere
   unfolding searchFrom findIn
@@ -143,7 +146,8 @@ part-text [] (suc i) (suc e) h = take-none (suc e - suc i)
     take-none (suc k) = refl
 part-text (x ∷ l) (suc i) zero h = absurd (not-suc-le-zero h)
 part-text (x ∷ l) (suc i) (suc e) h =
-    (let less : suc e - suc i ≡ e - i = omega arith in ap (λ k. take k (drop i l)) less) ∙ part-text l i e (le-of-suc-le-suc h)
+    (let less : suc e - suc i ≡ e - i = omega arith in ap (λ k. take k (drop i l)) less) ∙ part-text l i e
+    (le-of-suc-le-suc h)
 
 module _ (sheet : List ℕ) (i e place : ℕ) (from : i ≤ e) where
   -- the line at a place is not the text where it does not begin with it

@@ -38,29 +38,41 @@ module _ (sheet names : List ℕ) (t : ℕ) (marks : List ℕ) (i : ℕ) where
   unfolding onPlace
   tip-unknown ne e =
       tip-token ne
-      ∙ ap (λ p. onPlace p noTree (λ r. pick (isMarked marks r) noTree (got (tip r) (tokenEnd sheet i) (marked marks r)))) e
+      ∙ ap (λ p. onPlace p noTree (λ r. pick (isMarked marks r) noTree (got (tip r) (tokenEnd sheet i) (marked marks
+      r)))) e
 
   module _ (ne : tokenEnd sheet i ≡ i → ⊥) (r : ℕ) (found : rowOf sheet names t i (tokenEnd sheet i) ≡ At r) where
-    tip-row : tipOf sheet names t marks i ≡ pick (isMarked marks r) noTree (got (tip r) (tokenEnd sheet i) (marked marks r))
+    tip-row : tipOf sheet names t marks i ≡ pick (isMarked marks r) noTree (got (tip r) (tokenEnd sheet i) (marked
+        marks r))
     unfolding onPlace
     tip-row =
         tip-token ne
-        ∙ ap (λ p. onPlace p noTree (λ r. pick (isMarked marks r) noTree (got (tip r) (tokenEnd sheet i) (marked marks r)))) found
+        ∙ ap (λ p. onPlace p noTree (λ r. pick (isMarked marks r) noTree (got (tip r) (tokenEnd sheet i) (marked
+        marks r)))) found
 
     -- nor where it has been met
     pub tip-again : isMarked marks r ≡ true → tipOf sheet names t marks i ≡ noTree
     tip-again y = tip-row ∙ pick-true _ _ y
 
-    pub tip-new : isMarked marks r ≡ false → tipOf sheet names t marks i ≡ got (tip r) (tokenEnd sheet i) (marked marks r)
+    pub tip-new : isMarked marks r ≡ false → tipOf sheet names t marks i ≡ got (tip r) (tokenEnd sheet i) (marked
+        marks r)
     tip-new n = tip-row ∙ pick-false _ _ n
 
 -- a name that is read is a tip
 pub tip-got : (sheet names : List ℕ) (t : ℕ) (marks : List ℕ) (i n : ℕ) (left right : List ℕ) (r : ℕ)
     → (tokenEnd sheet i ≡ i → ⊥) → rowOf sheet names t i (tokenEnd sheet i) ≡ At r → isMarked marks r ≡ false
-    → Got (tipOf sheet names t marks i) n left right (tokenEnd sheet i) (n + 1) (set left n 65535) (set right n r) (marked marks r)
+    → Got (tipOf sheet names t marks i) n left right (tokenEnd sheet i) (n + 1) (set left n 65535) (set right n r)
+    (marked marks r)
 unfolding lefts rights size
 tip-got sheet names t marks i n left right r ne found free =
-    record { vine = tip r; is = tip-new sheet names t marks i ne r found free; count = refl; lefts = refl; rights = refl }
+    record {
+      vine = tip r;
+      is = tip-new sheet names t marks i ne r found free;
+      count = refl;
+      lefts = refl;
+      rights =
+          refl;
+    }
 
 -- there is room for a name that has not been met
 pub tip-room : (names : List ℕ) (t n : ℕ) (left right marks : List ℕ) → Ready names t n left right marks
@@ -74,7 +86,8 @@ tip-room names t n left right marks ready r low free =
     (below, omega arith)
 
 -- The name at a place, read.
-module _ (sheet names : List ℕ) (t : ℕ) (marks : List ℕ) (i n : ℕ) (left right : List ℕ) (e : ℕ) (is-end : e ≡ tokenEnd sheet i) where
+module _ (sheet names : List ℕ) (t : ℕ) (marks : List ℕ) (i n : ℕ) (left right : List ℕ) (e : ℕ) (is-end : e ≡
+    tokenEnd sheet i) where
   pub name-empty : (left' right' marks' : List ℕ) → e ≡ i
       → Gives (tipOf sheet names t marks i) n left right NoTree left' right' marks'
   name-empty left' right' marks' same = record { gives = tip-empty sheet names t marks i (sym is-end ∙ same) }

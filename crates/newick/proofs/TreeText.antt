@@ -28,8 +28,11 @@ use Rattle.newick.proofs.TableLaws.{Rows}
 -- the rows of a tree that a text denotes are those of names
 denotes-rows : (sheet names : List ℕ) (t : ℕ) (v : Vine) (i e : ℕ) → Denotes sheet names t v i e → Rows t v
 denotes-rows sheet names t (tip r) i e is = is .row
-denotes-rows sheet names t (pair a b) i e is =
-    (denotes-rows sheet names t a (i + 1) (is .k) (is .left), denotes-rows sheet names t b (is .k + 1) (is .m) (is .right))
+denotes-rows sheet names t (pair a b) i e is = (
+  denotes-rows sheet names t a (i + 1) (is .k) (is .left),
+  denotes-rows sheet names t b (is .k + 1) (is .m) (is
+      .right),
+)
 
 -- no other row occurs
 rows-over : (t : ℕ) (v : Vine) (r : ℕ) → Rows t v → t ≤ r → occurs r v ≡ 0
@@ -62,7 +65,8 @@ module _ (sheet names : List ℕ) (t at end : ℕ) (few : t ≤ 512) (named : t 
         let rows = denotes-rows sheet names t vine at (is .stop) (is .tree) in
         let half = rows-count t vine rows in
         let ones : sum (λ r. occurs r vine) t ≡ t = sum-same (λ r. occurs r vine) (λ r. 1) t (is .once) ∙ sum-ones t in
-        let (marks, read) = denotes-read sheet names t named different few vine 128 (unmarked 512) at (is .stop) unmarked-marks
+        let (marks, read) = denotes-read sheet names t named different few vine 128 (unmarked 512) at (is .stop)
+        unmarked-marks
         (is .tree) (is .flat) (ap isNameByte (is .semicolon) ∙ end-byte)
         (λ r. let none = unmarked-row r in
         by-lt r t (λ low. let one = is .once r low in omega arith)
@@ -83,7 +87,8 @@ module _ (sheet names : List ℕ) (t at end : ℕ) (few : t ≤ 512) (named : t 
         (ap isNameByte (f .semicolon) ∙ end-byte) (ap isNameByte (g .semicolon) ∙ end-byte) .0
 
     -- Whatever is not the text of a tree is refused: a line that is refused is the text of none.
-    pub refused-no-tree : lineTree sheet names t at end ≡ noTree → (vine : Vine) → IsTreeLine sheet names t at end vine → ⊥
+    pub refused-no-tree : lineTree sheet names t at end ≡ noTree → (vine : Vine) → IsTreeLine sheet names t at end
+        vine → ⊥
     refused-no-tree none vine is =
         let (marks, read) = tree-is-read vine is in
         none-got (sym none ∙ read)

@@ -23,7 +23,8 @@ pub record IsName (sheet names : List ℕ) (t r i e : ℕ) : Type 0 where
   pub inside : e ≤ length sheet
   pub name : NameAt sheet (getD names r 0) (textOf sheet i e)
 
--- the bytes from i up to e are a pair of trees, whose texts are so and so: a bracket, the first tree up to k, a comma, the
+-- the bytes from i up to e are a pair of trees, whose texts are so and so: a bracket, the first tree up to k, a
+-- comma, the
 -- second up to m, and a bracket
 pub record IsPair (sheet : List ℕ) (first second : ℕ → ℕ → Type 0) (i e : ℕ) : Type 0 where
   pub k : ℕ
@@ -42,5 +43,6 @@ Denotes sheet names t (pair a b) i e = IsPair sheet (Denotes sheet names t a) (D
 
 -- the names of the sheet are different: a text is the line of at most one row
 pub record Different (sheet names : List ℕ) (t : ℕ) : Type 0 where
-  pub rows : (q r : ℕ) (text : List ℕ) → q < t → r < t → NameAt sheet (getD names q 0) text → NameAt sheet (getD names r 0) text
+  pub rows : (q r : ℕ) (text : List ℕ) → q < t → r < t → NameAt sheet (getD names q 0) text → NameAt sheet (getD
+      names r 0) text
       → q ≡ r

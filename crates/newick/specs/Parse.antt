@@ -58,7 +58,8 @@ module _ (sheet names : List ℕ) (t : ℕ) where
   unfolding treeBy pairOf
   treeOf depth marks i = treeBy (pairOf depth) marks i
 
-  -- the tree line from a place up to its end: a tree that nests at most 128 deep, with each of the t names once, and `;`
+  -- the tree line from a place up to its end: a tree that nests at most 128 deep, with each of the t names once, and
+  -- `;`
   unfoldable pub lineTree : ℕ → ℕ → Parsed
   unfolding pick both onParsed onByte treeOf unmarked size
   lineTree at end =

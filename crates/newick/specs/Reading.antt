@@ -22,19 +22,21 @@ pub record Ready (names : List ℕ) (t n : ℕ) (left right marks : List ℕ) : 
   pub made : n ≤ 2 * met marks
 
 -- a tree is read: it ends at next, m nodes are made, its nodes are written from n on, and its names are marked
-pub record Got (parsed : Parsed) (n : ℕ) (left right : List ℕ) (next m : ℕ) (left' right' marks' : List ℕ) : Type 0 where
-  pub vine : Vine
-  pub is : parsed ≡ got vine next marks'
-  pub count : m ≡ n + size vine
-  pub lefts : left' ≡ sets left n (lefts vine n)
-  pub rights : right' ≡ sets right n (rights vine n)
+pub record Got (parsed : Parsed) (n : ℕ) (left right : List ℕ) (next m : ℕ) (left' right' marks' : List ℕ) : Type 0
+  where
+    pub vine : Vine
+    pub is : parsed ≡ got vine next marks'
+    pub count : m ≡ n + size vine
+    pub lefts : left' ≡ sets left n (lefts vine n)
+    pub rights : right' ≡ sets right n (rights vine n)
 
 -- the answer is what the definition gives
 abbrev pub GivesFor : Parsed → ℕ → List ℕ → List ℕ → Subtree → List ℕ → List ℕ → List ℕ → Type 0
 GivesFor parsed n left right (Tree next m) left' right' marks' = Got parsed n left right next m left' right' marks'
 GivesFor parsed n left right NoTree left' right' marks' = parsed ≡ noTree
 
-pub record Gives (parsed : Parsed) (n : ℕ) (left right : List ℕ) (answer : Subtree) (left' right' marks' : List ℕ) : Type 0
+pub record Gives (parsed : Parsed) (n : ℕ) (left right : List ℕ) (answer : Subtree) (left' right' marks' : List ℕ) :
+    Type 0
   where
     pub gives : GivesFor parsed n left right answer left' right' marks'
 

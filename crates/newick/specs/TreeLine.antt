@@ -8,7 +8,8 @@ use lib.ListN.{getD}
 use Rattle.newick.specs.Denotes.{Denotes}
 use Rattle.newick.specs.Vine.{Vine, occurs, deep}
 
--- The line from a place up to its end is the text of a tree: it denotes the tree and ends in `;`, brackets nest at most 128
+-- The line from a place up to its end is the text of a tree: it denotes the tree and ends in `;`, brackets nest at
+-- most 128
 -- deep, and each of the t names occurs once.
 pub record IsTreeLine (sheet names : List ℕ) (t at end : ℕ) (vine : Vine) : Type 0 where
   pub stop : ℕ

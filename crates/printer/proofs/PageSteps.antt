@@ -23,7 +23,8 @@ module _ (sheet : List ℕ) (s : Sheet) (costs left right : List ℕ) (j : ℕ) 
   pub printed-inside : length line' ≡ length line → n ≤ length line'
   printed-inside same =
       let text = printed .printed (ready .has) (ready .read .is) .text in
-      let long = ap length (text .bytes) ∙ length-append (lineIn sheet (ready .has) j) (drop (length (lineIn sheet (ready .has) j)) line) in
+      let long = ap length (text .bytes) ∙ length-append (lineIn sheet (ready .has) j) (drop (length (lineIn sheet
+      (ready .has) j)) line) in
       let size = text .long in
       omega arith
 
@@ -42,7 +43,8 @@ module _ (sheet : List ℕ) (s : Sheet) (costs left right : List ℕ) (j : ℕ) 
       }
 
   pub put-inside : (page page₁ : List ℕ) (at next : ℕ) → length line' ≡ 1056 → at + 1057 ≤ length page
-      → n ≤ length line' → Put (take (n - 0) (drop 0 line')) at page page₁ next → length (take (n - 0) (drop 0 line')) ≡ n
+      → n ≤ length line' → Put (take (n - 0) (drop 0 line')) at page page₁ next → length (take (n - 0) (drop 0
+      line')) ≡ n
       → next < length page₁
   put-inside page page₁ at next long room low put size =
       let same = put-long put in let end = put .end in omega arith
@@ -59,7 +61,8 @@ pub record Turn (sheet : List ℕ) (first total : ℕ) (page₀ left right cells
   pub none : next ≡ first → size ≡ 0
   pub fits : size ≤ length page
 
-pub turn-none : (sheet : List ℕ) (s : Sheet) (costs : List ℕ) (first total : ℕ) (left right cells states sets rows line page : List ℕ)
+pub turn-none : (sheet : List ℕ) (s : Sheet) (costs : List ℕ) (first total : ℕ) (left right cells states sets rows
+    line page : List ℕ)
     → ReadyFrom sheet s costs left right first → Room left right cells states sets rows line → length line ≡ 1056
     → total ≤ first * 4294967295 → Turn sheet first total page left right cells states sets rows line page first 0 total
 unfolding linesIn scoresIn
@@ -82,7 +85,8 @@ turn-none sheet s costs first total left right cells states sets rows line page 
       fits = omega arith;
     }
 
-module _ (sheet : List ℕ) (s : Sheet) (costs : List ℕ) (first total : ℕ) (page₀ left right cells states sets rows line page : List ℕ)
+module _ (sheet : List ℕ) (s : Sheet) (costs : List ℕ) (first total : ℕ) (page₀ left right cells states sets rows
+    line page : List ℕ)
     (next size all : ℕ) (ready : ReadyFrom sheet s costs left right first)
     (turn : Turn sheet first total page₀ left right cells states sets rows line page next size all) where
   -- the next column may be printed
@@ -94,7 +98,8 @@ module _ (sheet : List ℕ) (s : Sheet) (costs : List ℕ) (first total : ℕ) (
   -- and is, as one more line
   pub turn-more : next < s .columns → (cells' states' sets' rows' line' page' : List ℕ) (end k all' : ℕ)
       → LineOf sheet next page size page' end k → k ≤ 4294967295 → all' ≡ all + k
-      → Room left right cells' states' sets' rows' line' → length line' ≡ 1056 → length page' ≡ length page → end ≤ length page'
+      → Room left right cells' states' sets' rows' line' → length line' ≡ 1056 → length page' ≡ length page → end ≤
+      length page'
       → Turn sheet first total page₀ left right cells' states' sets' rows' line' page' (next + 1) end all'
   unfolding linesIn scoresIn fullLine
   turn-more low cells' states' sets' rows' line' page' end k all' put small sum room long same inside =
@@ -115,7 +120,8 @@ module _ (sheet : List ℕ) (s : Sheet) (costs : List ℕ) (first total : ℕ) (
               after = let a = before .after in omega arith;
               inside = omega arith;
               put = put-then (before .put)
-                  (subst (λ j. Put (lineIn sheet has j ++ (10 ∷ [])) size page page' end) (sym place) (put .put has is));
+                  (subst (λ j. Put (lineIn sheet has j ++ (10 ∷ [])) size page page' end) (sym place) (put .put has
+                  is));
               added = omega arith;
             };
         few = omega arith;
@@ -128,7 +134,8 @@ module _ (sheet : List ℕ) (s : Sheet) (costs : List ℕ) (first total : ℕ) (
       }
 
   -- a page that is full, or has every column
-  pub turn-full : 1057 ≤ length page₀ → length page < size + 1056 + 1 → PageOf sheet first total page₀ next size all page
+  pub turn-full : 1057 ≤ length page₀ → length page < size + 1056 + 1 → PageOf sheet first total page₀ next size all
+      page
   turn-full big full =
       let same = turn .same in
       let from = turn .from in
@@ -167,7 +174,8 @@ room-kept left right cells states sets rows line cells' states' sets' rows' line
     }
 
 -- a byte that is put ends within the page
-pub byte-inside : (page page₁ : List ℕ) (next end : ℕ) → next < length page → Put (10 ∷ []) next page page₁ end → end ≤ length page₁
+pub byte-inside : (page page₁ : List ℕ) (next end : ℕ) → next < length page → Put (10 ∷ []) next page page₁ end → end
+    ≤ length page₁
 byte-inside page page₁ next end low put = let same = put-long put in let e = put .end in omega arith
 
 module _ (sheet : List ℕ) (s : Sheet) (costs left right : List ℕ) (ready : ReadyFrom sheet s costs left right 0) where

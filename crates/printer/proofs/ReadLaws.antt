@@ -77,8 +77,10 @@ module _ (sheet : List ℕ) (s : Sheet) (answer : Read) (table' : List (List ℕ
         cells = holds .cells;
         nodes = holds .nodes;
         priced = flat-same (has .costs) costs rules (subst (λ t. Flat t costs) (holds .priced) flatly);
-        lefts = first-put (s .nodes) left left' (lefts vine 0) (holds .nodes ∙ sym long-left) (holds .lefts) (omega arith);
-        rights = first-put (s .nodes) right right' (rights vine 0) (holds .nodes ∙ sym long-right) (holds .rights) (omega arith);
+        lefts = first-put (s .nodes) left left' (lefts vine 0) (holds .nodes ∙ sym long-left) (holds .lefts) (omega
+            arith);
+        rights = first-put (s .nodes) right right' (rights vine 0) (holds .nodes ∙ sym long-right) (holds .rights)
+            (omega arith);
       }
 
   -- so it may be printed from its first column on

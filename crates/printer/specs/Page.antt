@@ -30,9 +30,11 @@ pub record LineOf (sheet : List ℕ) (j : ℕ) (page : List ℕ) (at : ℕ) (pag
   pub put : (has : Contents) → judge sheet ≡ sound has → Put (fullLine sheet has j) at page page' end
   pub score : (has : Contents) → judge sheet ≡ sound has → k ≡ scoreIn sheet has j
 
--- the lines of the columns from the first up to next stand at the start of the page, size bytes in all, and their scores
+-- the lines of the columns from the first up to next stand at the start of the page, size bytes in all, and their
+-- scores
 -- are added to the total
-pub record Lines (sheet : List ℕ) (has : Contents) (first total : ℕ) (page : List ℕ) (next size all : ℕ) (page' : List ℕ)
+pub record Lines (sheet : List ℕ) (has : Contents) (first total : ℕ) (page : List ℕ) (next size all : ℕ) (page' :
+    List ℕ)
     : Type 0 where
   pub k : ℕ
   pub after : next ≡ first + k

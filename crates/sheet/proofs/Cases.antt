@@ -17,7 +17,14 @@ judged text = judge (bytes text)
 
 -- the paper's sheet
 paper : judged "names 3\na\nb\nc\ncolumns 2\nAC\nAT\nGT\ncosts 0\ntree 1\n((a,b),c);\n"
-    ≡ sound (record { tips = 3; columns = 2; cells = 24; costs = unitTable; vine = pair (pair (tip 0) (tip 1)) (tip 2) })
+    ≡ sound (record {
+      tips = 3;
+      columns = 2;
+      cells = 24;
+      costs = unitTable;
+      vine = pair (pair (tip 0) (tip 1)) (tip
+          2);
+    })
 unfolding judged unitTable
 paper = refl
 

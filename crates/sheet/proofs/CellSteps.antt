@@ -35,7 +35,8 @@ pub filled-none : (sheet : List ℕ) (c at j : ℕ) (cells : List ℕ) → lengt
 filled-none sheet c at j cells long = record { long = long; cell = λ r h. absurd (not-suc-le-zero h) }
 
 pub filled-more : (sheet : List ℕ) (c at j n : ℕ) (cells : List ℕ) (v : ℕ) → n < 512
-    → v ≡ codeOf (getD sheet (rowAt at c n + j) 0) → Filled sheet c at j n cells → Filled sheet c at j (n + 1) (set cells n v)
+    → v ≡ codeOf (getD sheet (rowAt at c n + j) 0) → Filled sheet c at j n cells → Filled sheet c at j (n + 1) (set
+    cells n v)
 filled-more sheet c at j n cells v low is filled =
     let long = filled .long in
     record {

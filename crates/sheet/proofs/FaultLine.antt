@@ -63,7 +63,8 @@ pub judge-line : (sheet : List ℕ) (f : Fault) → judge sheet ≡ faulty f →
 unfolding judge onReading
 judge-line sheet f h =
     subst Low h
-    (low-pick (ltb 65536 (length sheet)) (faulty (Sheet 0)) (onReading (sheetOf sheet .rest .reading) rest) (omega arith)
+    (low-pick (ltb 65536 (length sheet)) (faulty (Sheet 0)) (onReading (sheetOf sheet .rest .reading) rest) (omega
+    arith)
     (by-reading (sheetOf sheet .rest .reading) refl))
   where
     rest : Sections → Judged

@@ -51,14 +51,19 @@ module _ (sheet names : List ℕ) (s : Sections) (left right left' right' : List
       (faulty (Sheet (s .line + 1)))
 
   abbrev afterLine : List (List ℕ) → ℕ → Judged
-  afterLine costs end = onTree (lineTree sheet names (s .tips) (s .tree) end) (faulty (TreeText (s .line))) (afterTree costs end)
+  afterLine costs end = onTree (lineTree sheet names (s .tips) (s .tree) end) (faulty (TreeText (s .line)))
+      (afterTree costs end)
 
   -- no line: SHEET
   pub no-line : lineOf sheet (s .tree) ≡ Nowhere
       → GivesTree sheet names s (Answer.Faulty (Sheet (s .line))) left right left' right'
   unfolding treeLine onPlace
   no-line none =
-      record { tree = λ costs. record { gives = ap (λ p. onPlace p (faulty (Sheet (s .line))) (afterLine costs)) none } }
+      record {
+        tree = λ costs. record {
+          gives = ap (λ p. onPlace p (faulty (Sheet (s .line))) (afterLine costs)) none;
+        };
+      }
 
   module _ (end : ℕ) (line : lineOf sheet (s .tree) ≡ At end) where
     to-line : (costs : List (List ℕ)) → treeLine sheet names costs s ≡ afterLine costs end
@@ -76,7 +81,8 @@ module _ (sheet names : List ℕ) (s : Sections) (left right left' right' : List
           };
         }
 
-    module _ (stop n : ℕ) (tree : GotLine (lineTree sheet names (s .tips) (s .tree) end) left right stop n left' right') where
+    module _ (stop n : ℕ) (tree : GotLine (lineTree sheet names (s .tips) (s .tree) end) left right stop n left'
+        right') where
       to-tree : (costs : List (List ℕ)) → treeLine sheet names costs s ≡ afterTree costs end (tree .line .vine)
       unfolding onTree
       to-tree costs =
@@ -86,12 +92,18 @@ module _ (sheet names : List ℕ) (s : Sections) (left right left' right' : List
       pub more-after : (end + 1 ≡ length sheet → ⊥)
           → GivesTree sheet names s (Answer.Faulty (Sheet (s .line + 1))) left right left' right'
       more-after ne =
-          record { tree = λ costs. record { gives = to-tree costs ∙ pick-false _ _ (ne-eqb (end + 1) (length sheet) ne) } }
+          record {
+            tree = λ costs. record {
+              gives = to-tree costs ∙ pick-false _ _ (ne-eqb (end + 1) (length sheet)
+                  ne);
+            };
+          }
 
       -- and nothing: the sheet is sound
       pub whole-line : end + 1 ≡ length sheet
           → GivesTree sheet names s
-          (Answer.Sound (record { tips = s .tips; columns = s .columns; cells = s .cells; nodes = n })) left right left' right'
+          (Answer.Sound (record { tips = s .tips; columns = s .columns; cells = s .cells; nodes = n })) left right
+          left' right'
       whole-line last =
           record {
             tree = λ costs. record {
@@ -198,4 +210,5 @@ pub part-first : (l : List ℕ) (t : ℕ) → take (t - 0) (drop 0 l) ≡ take t
 part-first l t = let same : t - 0 ≡ t = omega arith in ap (λ k. take k l) same
 
 pub part-long : (l : List ℕ) (t : ℕ) → t ≤ length l → t ≤ length (take (t - 0) (drop 0 l))
-part-long l t h = let long : length (take t l) ≡ t = length-take-le t l h in let same = ap length (part-first l t) in omega arith
+part-long l t h = let long : length (take t l) ≡ t = length-take-le t l h in let same = ap length (part-first l t) in
+    omega arith

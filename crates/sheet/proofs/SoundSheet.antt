@@ -1,4 +1,5 @@
--- What a sound sheet has, in words: its names, cells, costs and tree keep their rules, and so does the table of each column.
+-- What a sound sheet has, in words: its names, cells, costs and tree keep their rules, and so does the table of each
+-- column.
 -- Assumes nothing.
 use mathlib.Core.Bool.{Bool, true, false}
 use mathlib.Core.List.{List}
@@ -98,9 +99,11 @@ sound-from sheet has h = by-length (ltb 65536 (length sheet)) refl h
     by-line : (s : Sections) → sheetOf sheet .rest .reading ≡ Sound s → length sheet ≤ 65536
         → (p : Place) → lineOf sheet (s .tree) ≡ p
         → onPlace p (faulty (Sheet (s .line)))
-        (λ end. onTree (lineTree sheet names (s .tips) (s .tree) end) (faulty (TreeText (s .line))) (after s end)) ≡ sound has
+        (λ end. onTree (lineTree sheet names (s .tips) (s .tree) end) (faulty (TreeText (s .line))) (after s end)) ≡
+        sound has
         → SoundFrom sheet has
-    by-line s reading short (At end) line g = by-tree s reading end line short (lineTree sheet names (s .tips) (s .tree) end) refl g
+    by-line s reading short (At end) line g = by-tree s reading end line short (lineTree sheet names (s .tips) (s
+        .tree) end) refl g
     by-line s reading short Nowhere line g = absurd (faulty-sound g)
 
     by-reading : length sheet ≤ 65536 → (r : Reading) → sheetOf sheet .rest .reading ≡ r
@@ -111,7 +114,8 @@ sound-from sheet has h = by-length (ltb 65536 (length sheet)) refl h
     whole : Judged
     whole = onReading (sheetOf sheet .rest .reading) (treeLine sheet names costs)
 
-    by-length : (b : Bool) → ltb 65536 (length sheet) ≡ b → pick b (faulty (Sheet 0)) whole ≡ sound has → SoundFrom sheet has
+    by-length : (b : Bool) → ltb 65536 (length sheet) ≡ b → pick b (faulty (Sheet 0)) whole ≡ sound has → SoundFrom
+        sheet has
     by-length true y g = absurd (faulty-sound (sym (pick-true (faulty (Sheet 0)) whole refl) ∙ g))
     by-length false y g =
         by-reading (ltb-false 65536 (length sheet) y) (sheetOf sheet .rest .reading) refl

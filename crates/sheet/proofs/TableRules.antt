@@ -29,7 +29,8 @@ use Rattle.symbols.specs.Code.{codeOf}
 use Rattle.symbols.proofs.SymbolLaws.{symbol-set}
 
 -- the rows of four entries, one after the other
-flat-long : (rows : List (List ℕ)) → ((x : ℕ) → x < length rows → length (getD rows x []) ≡ 4) → length (flat rows) ≡ length rows * 4
+flat-long : (rows : List (List ℕ)) → ((x : ℕ) → x < length rows → length (getD rows x []) ≡ 4) → length (flat rows) ≡
+    length rows * 4
 unfolding flat
 flat-long [] four = sym (zero-mul 4)
 flat-long (row ∷ rows) four =
@@ -38,7 +39,8 @@ flat-long (row ∷ rows) four =
     let whole = length-append row (flat rows) in
     omega arith
 
-flat-at : (rows : List (List ℕ)) → ((x : ℕ) → x < length rows → length (getD rows x []) ≡ 4) → (x y : ℕ) → x < length rows
+flat-at : (rows : List (List ℕ)) → ((x : ℕ) → x < length rows → length (getD rows x []) ≡ 4) → (x y : ℕ) → x < length
+    rows
     → y < 4 → getD (flat rows) (x * 4 + y) 0 ≡ getD (getD rows x []) y 0
 unfolding flat
 flat-at [] four x y h k = absurd (not-suc-le-zero h)
@@ -73,17 +75,20 @@ module _ (sheet : List ℕ) (has : Contents) (from : SoundFrom sheet has) where
   -- its tree is legal, with a symbol tip for each name and no handed tip
   pub sheet-legal : Legal (lefts (has .vine) 0) (rights (has .vine) 0)
   sheet-legal =
-      line-legal sheet (sheetOf sheet .names) (from .sections .tips) (from .sections .tree) (from .end) few named (has .vine)
+      line-legal sheet (sheetOf sheet .names) (from .sections .tips) (from .sections .tree) (from .end) few named
+      (has .vine)
       (from .stop) (from .marks) (from .tree)
 
   sheet-tips : (j : ℕ) → tipsIn symbol (tableOf sheet has j) ≡ has .tips
   sheet-tips j =
-      line-tips sheet (sheetOf sheet .names) (from .sections .tips) (from .sections .tree) (from .end) few named (has .vine)
+      line-tips sheet (sheetOf sheet .names) (from .sections .tips) (from .sections .tree) (from .end) few named (has
+      .vine)
       (from .stop) (from .marks) (from .tree) ∙ sym (from .tips)
 
   pub sheet-handed : (j : ℕ) → tipsIn handed (tableOf sheet has j) ≡ 0
   sheet-handed j =
-      line-handed sheet (sheetOf sheet .names) (from .sections .tips) (from .sections .tree) (from .end) few named (has .vine)
+      line-handed sheet (sheetOf sheet .names) (from .sections .tips) (from .sections .tree) (from .end) few named
+      (has .vine)
       (from .stop) (from .marks) (from .tree)
 
   -- its costs keep the rules
@@ -94,7 +99,8 @@ module _ (sheet : List ℕ) (has : Contents) (from : SoundFrom sheet has) where
 
   -- the cell of row r and column j stands at its place and is a symbol's set
   pub sheet-cell : (j r : ℕ) → j < has .columns → r < has .tips
-      → (rowAt (has .cells) (has .columns) r + j < length sheet) × (1 ≤ cellOf sheet has j r) × (cellOf sheet has j r ≤ 15)
+      → (rowAt (has .cells) (has .columns) r + j < length sheet) × (1 ≤ cellOf sheet has j r) × (cellOf sheet has j r
+      ≤ 15)
   unfolding cellOf
   sheet-cell j r hj hr =
       let place = rowAt (from .sections .cells) (from .sections .columns) r in

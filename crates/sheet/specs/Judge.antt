@@ -39,7 +39,8 @@ unfoldable pub onTree : Parsed → Judged → (Vine → Judged) → Judged
 onTree (got vine e marks) none go = go vine
 onTree noTree none go = none
 
--- The tree line, after the sections: its bytes and line end (SHEET), its text (TREE TEXT), and then nothing more (SHEET on
+-- The tree line, after the sections: its bytes and line end (SHEET), its text (TREE TEXT), and then nothing more
+-- (SHEET on
 -- the next line).
 unfoldable pub treeLine : List ℕ → List ℕ → List (List ℕ) → Sections → Judged
 unfolding pick onPlace onTree lineOf lineTree

@@ -19,25 +19,41 @@ enum-known-fault : tie.Need-enum-known-fault
 enum-known-fault c = search needs
 
 fault-code-requires : tie.Need-fault-code-requires
-fault-code-requires c κs = let l = judge-line _ _ (read-fault _ _ _ _ _ _ _ _ (c .before .before .before .before .read-sheet .ensures) (c .before .fault .given .1)) in omega arith
+fault-code-requires c κs = let l = judge-line _ _ (read-fault _ _ _ _ _ _ _ _ (c .before .before .before .before
+    .read-sheet .ensures) (c .before .fault .given .1)) in omega arith
 
 enum-known-s : tie.Need-enum-known-s
 enum-known-s c = search needs
 
 returns : tie.Need-returns
-returns c = read-which _ _ _ _ _ _ _ _ _ _ (c .before .before .before .before .before .read-sheet .ensures) (c .before .before .s .given .1) (c .if1 .taken)
+returns c = read-which _ _ _ _ _ _ _ _ _ _ (c .before .before .before .before .before .read-sheet .ensures) (c
+    .before .before .s .given .1) (c .if1 .taken)
 
 slice-aggregate-give-line : tie.Need-slice-aggregate-give-line
-slice-aggregate-give-line c = sym (read-long _ _ _ _ _ _ _ _ (c .before .before .before .before .before .before .read-sheet .ensures) (c .before .before .before .s .given .1) .0)
+slice-aggregate-give-line c = sym (read-long _ _ _ _ _ _ _ _ (c .before .before .before .before .before .before
+    .read-sheet .ensures) (c .before .before .before .s .given .1) .0)
 
 slice-aggregate-give-line-2 : tie.Need-slice-aggregate-give-line-2
-slice-aggregate-give-line-2 c = sym (read-long _ _ _ _ _ _ _ _ (c .before .before .before .before .before .before .before .read-sheet .ensures) (c .before .before .before .before .s .given .1) .1)
+slice-aggregate-give-line-2 c = sym (read-long _ _ _ _ _ _ _ _ (c .before .before .before .before .before .before
+    .before .read-sheet .ensures) (c .before .before .before .before .s .given .1) .1)
 
 give-line-requires : tie.Need-give-line-requires
-give-line-requires c κs = (read-held _ _ _ _ _ _ _ _ _ refl refl (c .before .before .before .before .before .before .before .before .read-sheet .ensures) (c .before .before .before .before .before .s .given .1) (c .before .before .before .if1 .left), (read-long _ _ _ _ _ _ _ _ (c .before .before .before .before .before .before .before .before .read-sheet .ensures) (c .before .before .before .before .before .s .given .1) .0, read-long _ _ _ _ _ _ _ _ (c .before .before .before .before .before .before .before .before .read-sheet .ensures) (c .before .before .before .before .before .s .given .1) .1))
+give-line-requires c κs = (
+  read-held _ _ _ _ _ _ _ _ _ refl refl (c .before .before .before .before .before .before
+      .before .before .read-sheet .ensures) (c .before .before .before .before .before .s .given .1) (c .before .before
+      .before .if1 .left),
+  (
+    read-long _ _ _ _ _ _ _ _ (c .before .before .before .before .before .before .before
+        .before .read-sheet .ensures) (c .before .before .before .before .before .s .given .1) .0,
+    read-long _ _ _ _ _ _
+        _ _ (c .before .before .before .before .before .before .before .before .read-sheet .ensures) (c .before .before
+        .before .before .before .s .given .1) .1,
+  ),
+)
 
 returns-2 : tie.Need-returns-2
-returns-2 c = entry-fault _ _ _ _ _ (read-fault _ _ _ _ _ _ _ _ (c .before .before .before .before .before .read-sheet .ensures) (c .before .before .fault .given .1)) (c .fault-code .ensures)
+returns-2 c = entry-fault _ _ _ _ _ (read-fault _ _ _ _ _ _ _ _ (c .before .before .before .before .before
+    .read-sheet .ensures) (c .before .before .fault .given .1)) (c .fault-code .ensures)
 
 same-length : tie.Need-same-length
 same-length c = search needs

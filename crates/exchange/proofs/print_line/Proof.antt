@@ -23,7 +23,22 @@ slice-aggregate-sheet-line-4 : tie.Need-slice-aggregate-sheet-line-4
 slice-aggregate-sheet-line-4 c = search needs
 
 sheet-line-requires : tie.Need-sheet-line-requires
-sheet-line-requires c κs = (held-ready _ _ _ _ _ _ (c .before .before .before .before .before .before .before .before .before .before .before .pre .0) _ (c .before .before .before .before .before .before .flat-costs .ensures), record { leftLong = c .before .before .before .before .before .before .before .before .before .before .before .pre .1 .0; rightLong = c .before .before .before .before .before .before .before .before .before .before .before .pre .1 .1; cellsLong = refl; statesRoom = omega arith; setsRoom = omega arith; rowsRoom = omega arith; lineRoom = c .before .before .before .before .before .before .before .before .before .before .before .pre .1 .2 })
+sheet-line-requires c κs = (
+  held-ready _ _ _ _ _ _ (c .before .before .before .before .before .before .before .before
+      .before .before .before .pre .0) _ (c .before .before .before .before .before .before .flat-costs .ensures),
+  record {
+    leftLong = c .before .before .before .before .before .before .before .before .before .before .before
+        .pre .1 .0;
+    rightLong = c .before .before .before .before .before .before .before .before .before .before .before
+        .pre .1 .1;
+    cellsLong = refl;
+    statesRoom = omega arith;
+    setsRoom = omega arith;
+    rowsRoom = omega arith;
+    lineRoom
+        = c .before .before .before .before .before .before .before .before .before .before .before .pre .1 .2;
+  },
+)
 
 same-length : tie.Need-same-length
 same-length c = search needs

@@ -1,7 +1,23 @@
 -- The readers of a tree and of a pair meet their contracts. The measure is twice the depth left, and one more for a
 -- tree.
 -- Assumes nothing.
-use Rattle.newick.proofs.PairSteps.{byte-inside, gives-tree, gives-none, gives-same, tree-pair, tree-name, pair-flat, pair-first, pair-comma, pair-second, pair-close, pair-whole, second-ready, pair-room, pair-got}
+use Rattle.newick.proofs.PairSteps.{
+  byte-inside,
+  gives-tree,
+  gives-none,
+  gives-same,
+  tree-pair,
+  tree-name,
+  pair-flat,
+  pair-first,
+  pair-comma,
+  pair-second,
+  pair-close,
+  pair-whole,
+  second-ready,
+  pair-room,
+  pair-got,
+}
 use Rattle.lines.proofs.ByteLaws.{test-yes, test-no}
 use native.Mathlib.Numerals.{add-one-le}
 use native.Mathlib.Nat.{lt-of-le-of-lt}
@@ -66,7 +82,10 @@ read-pair-add-read-tree : (t : ℕ) → read-pair-lts.Need-add-read-tree (
   put-node-reads.Asked,
   put-node-reads.Learnt,
 ) (read-pair-at t) read-pair.Post
-read-pair-add-read-tree t c = record { fits = lt-of-le-of-lt (add-one-le (c .before .before .before .pre .1 .1)) (c .before .before .before .good .0 .0) }
+read-pair-add-read-tree t c = record {
+  fits = lt-of-le-of-lt (add-one-le (c .before .before .before .pre .1 .1)) (c
+      .before .before .before .good .0 .0);
+}
 
 read-pair-sub-read-tree : (t : ℕ) → read-pair-lts.Need-sub-read-tree (
   read-tree-below t,
@@ -90,7 +109,11 @@ read-pair-read-tree-requires : (t : ℕ) → read-pair-lts.Need-read-tree-requir
   put-node-reads.Asked,
   put-node-reads.Learnt,
 ) (read-pair-at t) read-pair.Post
-read-pair-read-tree-requires t c κs = (let e = c .before .before .before .before .before .before .pre .0 in let ne = c .before .before .before .if1 .left in omega arith, (c .before .before .before .before .before .before .pre .1 .0))
+read-pair-read-tree-requires t c κs = (
+  let e = c .before .before .before .before .before .before .pre .0 in let ne =
+      c .before .before .before .if1 .left in omega arith,
+  (c .before .before .before .before .before .before .pre .1 .0),
+)
 
 read-pair-enum-known-comma : (t : ℕ) → read-pair-lts.Need-enum-known-comma (
   read-tree-below t,
@@ -126,7 +149,10 @@ read-pair-returns-2 : (t : ℕ) → read-pair-lts.Need-returns-2 (
   put-node-reads.Asked,
   put-node-reads.Learnt,
 ) (read-pair-at t) read-pair.Post
-read-pair-returns-2 t c = record { gives = pair-first _ _ _ _ _ _ (c .before .before .before .before .before .before .if1 .left) (gives-none (c .before .before .read-tree .ensures) (c .enum-told .given .1)) }
+read-pair-returns-2 t c = record {
+  gives = pair-first _ _ _ _ _ _ (c .before .before .before .before .before .before
+      .if1 .left) (gives-none (c .before .before .read-tree .ensures) (c .enum-told .given .1));
+}
 
 read-pair-byte-is-requires : (t : ℕ) → read-pair-lts.Need-byte-is-requires (
   read-tree-below t,
@@ -150,7 +176,12 @@ read-pair-returns-3 : (t : ℕ) → read-pair-lts.Need-returns-3 (
   put-node-reads.Asked,
   put-node-reads.Learnt,
 ) (read-pair-at t) read-pair.Post
-read-pair-returns-3 t c = record { gives = pair-comma _ _ _ _ _ _ (c .before .before .before .before .before .before .before .before .before .if1 .left) _ _ _ ((gives-tree _ _ (c .before .before .before .before .before .read-tree .ensures) (c .before .before .before .comma .given .1)) .is) (test-no (c .before .byte-is .ensures) (c .if2 .taken)) }
+read-pair-returns-3 t c = record {
+  gives = pair-comma _ _ _ _ _ _ (c .before .before .before .before .before .before
+      .before .before .before .if1 .left) _ _ _ ((gives-tree _ _ (c .before .before .before .before .before .read-tree
+      .ensures) (c .before .before .before .comma .given .1)) .is) (test-no (c .before .byte-is .ensures) (c .if2
+      .taken));
+}
 
 read-pair-add-read-tree-2 : (t : ℕ) → read-pair-lts.Need-add-read-tree-2 (
   read-tree-below t,
@@ -162,7 +193,12 @@ read-pair-add-read-tree-2 : (t : ℕ) → read-pair-lts.Need-add-read-tree-2 (
   put-node-reads.Asked,
   put-node-reads.Learnt,
 ) (read-pair-at t) read-pair.Post
-read-pair-add-read-tree-2 t c = record { fits = lt-of-le-of-lt (add-one-le (byte-inside (c .before .before .before .before .before .before .before .before .before .before .before .before .args .sheet .now) _ 44 (omega arith) (test-yes (c .before .byte-is .ensures) (c .if2 .left)))) (c .before .before .before .before .before .before .before .before .before .before .before .before .good .0 .0) }
+read-pair-add-read-tree-2 t c = record {
+  fits = lt-of-le-of-lt (add-one-le (byte-inside (c .before .before .before
+      .before .before .before .before .before .before .before .before .before .args .sheet .now) _ 44 (omega arith)
+      (test-yes (c .before .byte-is .ensures) (c .if2 .left)))) (c .before .before .before .before .before .before
+      .before .before .before .before .before .before .good .0 .0);
+}
 
 read-pair-sub-read-tree-2 : (t : ℕ) → read-pair-lts.Need-sub-read-tree-2 (
   read-tree-below t,
@@ -186,7 +222,15 @@ read-pair-read-tree-requires-2 : (t : ℕ) → read-pair-lts.Need-read-tree-requ
   put-node-reads.Asked,
   put-node-reads.Learnt,
 ) (read-pair-at t) read-pair.Post
-read-pair-read-tree-requires-2 t c κs = (let e = c .before .before .before .before .before .before .before .before .before .before .before .before .before .before .before .pre .0 in let ne = c .before .before .before .before .before .before .before .before .before .before .before .before .if1 .left in omega arith, second-ready _ _ _ _ _ _ _ _ _ (c .before .before .before .before .before .before .before .before .before .before .before .before .before .before .before .pre .1 .0) _ _ _ _ _ (gives-tree _ _ (c .before .before .before .before .before .before .before .before .read-tree .ensures) (c .before .before .before .before .before .before .comma .given .1)))
+read-pair-read-tree-requires-2 t c κs = (
+  let e = c .before .before .before .before .before .before .before .before
+      .before .before .before .before .before .before .before .pre .0 in let ne = c .before .before .before .before
+      .before .before .before .before .before .before .before .before .if1 .left in omega arith,
+  second-ready _ _ _ _ _
+      _ _ _ _ (c .before .before .before .before .before .before .before .before .before .before .before .before
+      .before .before .before .pre .1 .0) _ _ _ _ _ (gives-tree _ _ (c .before .before .before .before .before .before
+      .before .before .read-tree .ensures) (c .before .before .before .before .before .before .comma .given .1)),
+)
 
 read-pair-enum-known-close : (t : ℕ) → read-pair-lts.Need-enum-known-close (
   read-tree-below t,
@@ -222,7 +266,14 @@ read-pair-returns-4 : (t : ℕ) → read-pair-lts.Need-returns-4 (
   put-node-reads.Asked,
   put-node-reads.Learnt,
 ) (read-pair-at t) read-pair.Post
-read-pair-returns-4 t c = record { gives = pair-second _ _ _ _ _ _ (c .before .before .before .before .before .before .before .before .before .before .before .before .before .before .before .if1 .left) _ _ _ ((gives-tree _ _ (c .before .before .before .before .before .before .before .before .before .before .before .read-tree .ensures) (c .before .before .before .before .before .before .before .before .before .comma .given .1)) .is) (test-yes (c .before .before .before .before .before .before .before .byte-is .ensures) (c .before .before .before .before .before .before .if2 .left)) (gives-none (c .before .before .read-tree2 .ensures) (c .enum-told2 .given .1)) }
+read-pair-returns-4 t c = record {
+  gives = pair-second _ _ _ _ _ _ (c .before .before .before .before .before .before
+      .before .before .before .before .before .before .before .before .before .if1 .left) _ _ _ ((gives-tree _ _ (c
+      .before .before .before .before .before .before .before .before .before .before .before .read-tree .ensures) (c
+      .before .before .before .before .before .before .before .before .before .comma .given .1)) .is) (test-yes (c
+      .before .before .before .before .before .before .before .byte-is .ensures) (c .before .before .before .before
+      .before .before .if2 .left)) (gives-none (c .before .before .read-tree2 .ensures) (c .enum-told2 .given .1));
+}
 
 read-pair-byte-is-requires-2 : (t : ℕ) → read-pair-lts.Need-byte-is-requires-2 (
   read-tree-below t,
@@ -246,7 +297,17 @@ read-pair-returns-5 : (t : ℕ) → read-pair-lts.Need-returns-5 (
   put-node-reads.Asked,
   put-node-reads.Learnt,
 ) (read-pair-at t) read-pair.Post
-read-pair-returns-5 t c = record { gives = pair-close _ _ _ _ _ _ (c .before .before .before .before .before .before .before .before .before .before .before .before .before .before .before .before .before .before .if1 .left) _ _ _ ((gives-tree _ _ (c .before .before .before .before .before .before .before .before .before .before .before .before .before .before .read-tree .ensures) (c .before .before .before .before .before .before .before .before .before .before .before .before .comma .given .1)) .is) (test-yes (c .before .before .before .before .before .before .before .before .before .before .byte-is .ensures) (c .before .before .before .before .before .before .before .before .before .if2 .left)) _ _ _ ((gives-tree _ _ (c .before .before .before .before .before .read-tree2 .ensures) (c .before .before .before .close .given .1)) .is) (test-no (c .before .byte-is2 .ensures) (c .if3 .taken)) }
+read-pair-returns-5 t c = record {
+  gives = pair-close _ _ _ _ _ _ (c .before .before .before .before .before .before
+      .before .before .before .before .before .before .before .before .before .before .before .before .if1 .left) _ _ _
+      ((gives-tree _ _ (c .before .before .before .before .before .before .before .before .before .before .before
+      .before .before .before .read-tree .ensures) (c .before .before .before .before .before .before .before .before
+      .before .before .before .before .comma .given .1)) .is) (test-yes (c .before .before .before .before .before
+      .before .before .before .before .before .byte-is .ensures) (c .before .before .before .before .before .before
+      .before .before .before .if2 .left)) _ _ _ ((gives-tree _ _ (c .before .before .before .before .before
+      .read-tree2 .ensures) (c .before .before .before .close .given .1)) .is) (test-no (c .before .byte-is2 .ensures)
+      (c .if3 .taken));
+}
 
 read-pair-sub-narrow : (t : ℕ) → read-pair-lts.Need-sub-narrow (
   read-tree-below t,
@@ -258,7 +319,13 @@ read-pair-sub-narrow : (t : ℕ) → read-pair-lts.Need-sub-narrow (
   put-node-reads.Asked,
   put-node-reads.Learnt,
 ) (read-pair-at t) read-pair.Post
-read-pair-sub-narrow t c = (pair-room _ _ _ _ _ _ _ _ _ (c .before .before .before .before .before .before .before .before .before .before .before .before .before .before .before .before .before .before .before .before .before .before .before .pre .1 .0) _ _ _ _ _ (gives-tree _ _ (c .before .before .before .before .before .before .before .before .before .before .before .before .before .before .before .before .read-tree .ensures) (c .before .before .before .before .before .before .before .before .before .before .before .before .before .before .comma .given .1)) _ _ _ _ _ _ (gives-tree _ _ (c .before .before .before .before .before .before .before .read-tree2 .ensures) (c .before .before .before .before .before .close .given .1))) .0
+read-pair-sub-narrow t c = (pair-room _ _ _ _ _ _ _ _ _ (c .before .before .before .before .before .before .before
+    .before .before .before .before .before .before .before .before .before .before .before .before .before .before
+    .before .before .pre .1 .0) _ _ _ _ _ (gives-tree _ _ (c .before .before .before .before .before .before .before
+    .before .before .before .before .before .before .before .before .before .read-tree .ensures) (c .before .before
+    .before .before .before .before .before .before .before .before .before .before .before .before .comma .given
+    .1)) _ _ _ _ _ _ (gives-tree _ _ (c .before .before .before .before .before .before .before .read-tree2 .ensures)
+    (c .before .before .before .before .before .close .given .1))) .0
 
 read-pair-narrow-requires : (t : ℕ) → read-pair-lts.Need-narrow-requires (
   read-tree-below t,
@@ -270,7 +337,14 @@ read-pair-narrow-requires : (t : ℕ) → read-pair-lts.Need-narrow-requires (
   put-node-reads.Asked,
   put-node-reads.Learnt,
 ) (read-pair-at t) read-pair.Post
-read-pair-narrow-requires t c κs = let r = (pair-room _ _ _ _ _ _ _ _ _ (c .before .before .before .before .before .before .before .before .before .before .before .before .before .before .before .before .before .before .before .before .before .before .before .pre .1 .0) _ _ _ _ _ (gives-tree _ _ (c .before .before .before .before .before .before .before .before .before .before .before .before .before .before .before .before .read-tree .ensures) (c .before .before .before .before .before .before .before .before .before .before .before .before .before .before .comma .given .1)) _ _ _ _ _ _ (gives-tree _ _ (c .before .before .before .before .before .before .before .read-tree2 .ensures) (c .before .before .before .before .before .close .given .1))) in let a = r .2 in let b = r .3 in omega arith
+read-pair-narrow-requires t c κs = let r = (pair-room _ _ _ _ _ _ _ _ _ (c .before .before .before .before .before
+    .before .before .before .before .before .before .before .before .before .before .before .before .before .before
+    .before .before .before .before .pre .1 .0) _ _ _ _ _ (gives-tree _ _ (c .before .before .before .before .before
+    .before .before .before .before .before .before .before .before .before .before .before .read-tree .ensures) (c
+    .before .before .before .before .before .before .before .before .before .before .before .before .before .before
+    .comma .given .1)) _ _ _ _ _ _ (gives-tree _ _ (c .before .before .before .before .before .before .before
+    .read-tree2 .ensures) (c .before .before .before .before .before .close .given .1))) in let a = r .2 in let b = r
+    .3 in omega arith
 
 read-pair-sub-narrow-2 : (t : ℕ) → read-pair-lts.Need-sub-narrow-2 (
   read-tree-below t,
@@ -282,7 +356,13 @@ read-pair-sub-narrow-2 : (t : ℕ) → read-pair-lts.Need-sub-narrow-2 (
   put-node-reads.Asked,
   put-node-reads.Learnt,
 ) (read-pair-at t) read-pair.Post
-read-pair-sub-narrow-2 t c = (pair-room _ _ _ _ _ _ _ _ _ (c .before .before .before .before .before .before .before .before .before .before .before .before .before .before .before .before .before .before .before .before .before .before .before .before .pre .1 .0) _ _ _ _ _ (gives-tree _ _ (c .before .before .before .before .before .before .before .before .before .before .before .before .before .before .before .before .before .read-tree .ensures) (c .before .before .before .before .before .before .before .before .before .before .before .before .before .before .before .comma .given .1)) _ _ _ _ _ _ (gives-tree _ _ (c .before .before .before .before .before .before .before .before .read-tree2 .ensures) (c .before .before .before .before .before .before .close .given .1))) .1
+read-pair-sub-narrow-2 t c = (pair-room _ _ _ _ _ _ _ _ _ (c .before .before .before .before .before .before .before
+    .before .before .before .before .before .before .before .before .before .before .before .before .before .before
+    .before .before .before .pre .1 .0) _ _ _ _ _ (gives-tree _ _ (c .before .before .before .before .before .before
+    .before .before .before .before .before .before .before .before .before .before .before .read-tree .ensures) (c
+    .before .before .before .before .before .before .before .before .before .before .before .before .before .before
+    .before .comma .given .1)) _ _ _ _ _ _ (gives-tree _ _ (c .before .before .before .before .before .before .before
+    .before .read-tree2 .ensures) (c .before .before .before .before .before .before .close .given .1))) .1
 
 read-pair-narrow-requires-2 : (t : ℕ) → read-pair-lts.Need-narrow-requires-2 (
   read-tree-below t,
@@ -294,7 +374,14 @@ read-pair-narrow-requires-2 : (t : ℕ) → read-pair-lts.Need-narrow-requires-2
   put-node-reads.Asked,
   put-node-reads.Learnt,
 ) (read-pair-at t) read-pair.Post
-read-pair-narrow-requires-2 t c κs = let b = (pair-room _ _ _ _ _ _ _ _ _ (c .before .before .before .before .before .before .before .before .before .before .before .before .before .before .before .before .before .before .before .before .before .before .before .before .pre .1 .0) _ _ _ _ _ (gives-tree _ _ (c .before .before .before .before .before .before .before .before .before .before .before .before .before .before .before .before .before .read-tree .ensures) (c .before .before .before .before .before .before .before .before .before .before .before .before .before .before .before .comma .given .1)) _ _ _ _ _ _ (gives-tree _ _ (c .before .before .before .before .before .before .before .before .read-tree2 .ensures) (c .before .before .before .before .before .before .close .given .1))) .3 in omega arith
+read-pair-narrow-requires-2 t c κs = let b = (pair-room _ _ _ _ _ _ _ _ _ (c .before .before .before .before .before
+    .before .before .before .before .before .before .before .before .before .before .before .before .before .before
+    .before .before .before .before .before .pre .1 .0) _ _ _ _ _ (gives-tree _ _ (c .before .before .before .before
+    .before .before .before .before .before .before .before .before .before .before .before .before .before
+    .read-tree .ensures) (c .before .before .before .before .before .before .before .before .before .before .before
+    .before .before .before .before .comma .given .1)) _ _ _ _ _ _ (gives-tree _ _ (c .before .before .before .before
+    .before .before .before .before .read-tree2 .ensures) (c .before .before .before .before .before .before .close
+    .given .1))) .3 in omega arith
 
 read-pair-put-node-requires : (t : ℕ) → read-pair-lts.Need-put-node-requires (
   read-tree-below t,
@@ -306,7 +393,14 @@ read-pair-put-node-requires : (t : ℕ) → read-pair-lts.Need-put-node-requires
   put-node-reads.Asked,
   put-node-reads.Learnt,
 ) (read-pair-at t) read-pair.Post
-read-pair-put-node-requires t c κs = (pair-room _ _ _ _ _ _ _ _ _ (c .before .before .before .before .before .before .before .before .before .before .before .before .before .before .before .before .before .before .before .before .before .before .before .before .before .pre .1 .0) _ _ _ _ _ (gives-tree _ _ (c .before .before .before .before .before .before .before .before .before .before .before .before .before .before .before .before .before .before .read-tree .ensures) (c .before .before .before .before .before .before .before .before .before .before .before .before .before .before .before .before .comma .given .1)) _ _ _ _ _ _ (gives-tree _ _ (c .before .before .before .before .before .before .before .before .before .read-tree2 .ensures) (c .before .before .before .before .before .before .before .close .given .1))) .3
+read-pair-put-node-requires t c κs = (pair-room _ _ _ _ _ _ _ _ _ (c .before .before .before .before .before .before
+    .before .before .before .before .before .before .before .before .before .before .before .before .before .before
+    .before .before .before .before .before .pre .1 .0) _ _ _ _ _ (gives-tree _ _ (c .before .before .before .before
+    .before .before .before .before .before .before .before .before .before .before .before .before .before .before
+    .read-tree .ensures) (c .before .before .before .before .before .before .before .before .before .before .before
+    .before .before .before .before .before .comma .given .1)) _ _ _ _ _ _ (gives-tree _ _ (c .before .before .before
+    .before .before .before .before .before .before .read-tree2 .ensures) (c .before .before .before .before .before
+    .before .before .close .given .1))) .3
 
 read-pair-add-t16 : (t : ℕ) → read-pair-lts.Need-add-t16 (
   read-tree-below t,
@@ -318,7 +412,15 @@ read-pair-add-t16 : (t : ℕ) → read-pair-lts.Need-add-t16 (
   put-node-reads.Asked,
   put-node-reads.Learnt,
 ) (read-pair-at t) read-pair.Post
-read-pair-add-t16 t c = record { fits = lt-of-le-of-lt (add-one-le (byte-inside (c .before .before .before .before .before .before .before .before .before .before .before .before .before .before .before .before .before .before .before .before .before .before .before .before .before .before .args .sheet .now) _ 41 (omega arith) (test-yes (c .before .before .before .before .before .before .byte-is2 .ensures) (c .before .before .before .before .before .if3 .left)))) (c .before .before .before .before .before .before .before .before .before .before .before .before .before .before .before .before .before .before .before .before .before .before .before .before .before .before .good .0 .0) }
+read-pair-add-t16 t c = record {
+  fits = lt-of-le-of-lt (add-one-le (byte-inside (c .before .before .before .before
+      .before .before .before .before .before .before .before .before .before .before .before .before .before .before
+      .before .before .before .before .before .before .before .before .args .sheet .now) _ 41 (omega arith) (test-yes
+      (c .before .before .before .before .before .before .byte-is2 .ensures) (c .before .before .before .before .before
+      .if3 .left)))) (c .before .before .before .before .before .before .before .before .before .before .before .before
+      .before .before .before .before .before .before .before .before .before .before .before .before .before .before
+      .good .0 .0);
+}
 
 read-pair-add-t17 : (t : ℕ) → read-pair-lts.Need-add-t17 (
   read-tree-below t,
@@ -330,7 +432,16 @@ read-pair-add-t17 : (t : ℕ) → read-pair-lts.Need-add-t17 (
   put-node-reads.Asked,
   put-node-reads.Learnt,
 ) (read-pair-at t) read-pair.Post
-read-pair-add-t17 t c = record { fits = let b = (pair-room _ _ _ _ _ _ _ _ _ (c .before .before .before .before .before .before .before .before .before .before .before .before .before .before .before .before .before .before .before .before .before .before .before .before .before .before .pre .1 .0) _ _ _ _ _ (gives-tree _ _ (c .before .before .before .before .before .before .before .before .before .before .before .before .before .before .before .before .before .before .before .read-tree .ensures) (c .before .before .before .before .before .before .before .before .before .before .before .before .before .before .before .before .before .comma .given .1)) _ _ _ _ _ _ (gives-tree _ _ (c .before .before .before .before .before .before .before .before .before .before .read-tree2 .ensures) (c .before .before .before .before .before .before .before .before .close .given .1))) .3 in omega arith }
+read-pair-add-t17 t c = record {
+  fits = let b = (pair-room _ _ _ _ _ _ _ _ _ (c .before .before .before .before
+      .before .before .before .before .before .before .before .before .before .before .before .before .before .before
+      .before .before .before .before .before .before .before .before .pre .1 .0) _ _ _ _ _ (gives-tree _ _ (c .before
+      .before .before .before .before .before .before .before .before .before .before .before .before .before .before
+      .before .before .before .before .read-tree .ensures) (c .before .before .before .before .before .before .before
+      .before .before .before .before .before .before .before .before .before .before .comma .given .1)) _ _ _ _ _ _
+      (gives-tree _ _ (c .before .before .before .before .before .before .before .before .before .before .read-tree2
+      .ensures) (c .before .before .before .before .before .before .before .before .close .given .1))) .3 in omega arith;
+}
 
 read-pair-returns-6 : (t : ℕ) → read-pair-lts.Need-returns-6 (
   read-tree-below t,
@@ -342,7 +453,29 @@ read-pair-returns-6 : (t : ℕ) → read-pair-lts.Need-returns-6 (
   put-node-reads.Asked,
   put-node-reads.Learnt,
 ) (read-pair-at t) read-pair.Post
-read-pair-returns-6 t c = record { gives = pair-got _ _ _ _ _ _ _ _ _ (c .before .before .before .before .before .before .before .before .before .before .before .before .before .before .before .before .before .before .before .before .before .before .before .before .before .before .pre .1 .0) _ _ _ _ _ (gives-tree _ _ (c .before .before .before .before .before .before .before .before .before .before .before .before .before .before .before .before .before .before .before .read-tree .ensures) (c .before .before .before .before .before .before .before .before .before .before .before .before .before .before .before .before .before .comma .given .1)) _ _ _ _ _ _ (gives-tree _ _ (c .before .before .before .before .before .before .before .before .before .before .read-tree2 .ensures) (c .before .before .before .before .before .before .before .before .close .given .1)) _ _ _ _ _ _ _ (pair-whole _ _ _ _ _ _ (c .before .before .before .before .before .before .before .before .before .before .before .before .before .before .before .before .before .before .before .before .before .before .before .if1 .left) _ _ _ ((gives-tree _ _ (c .before .before .before .before .before .before .before .before .before .before .before .before .before .before .before .before .before .before .before .read-tree .ensures) (c .before .before .before .before .before .before .before .before .before .before .before .before .before .before .before .before .before .comma .given .1)) .is) (test-yes (c .before .before .before .before .before .before .before .before .before .before .before .before .before .before .before .byte-is .ensures) (c .before .before .before .before .before .before .before .before .before .before .before .before .before .before .if2 .left)) _ _ _ ((gives-tree _ _ (c .before .before .before .before .before .before .before .before .before .before .read-tree2 .ensures) (c .before .before .before .before .before .before .before .before .close .given .1)) .is) (test-yes (c .before .before .before .before .before .before .byte-is2 .ensures) (c .before .before .before .before .before .if3 .left))) (c .before .before .narrow .ensures) (c .before .narrow2 .ensures) (c .put-node .ensures .0) (c .put-node .ensures .1) refl }
+read-pair-returns-6 t c = record {
+  gives = pair-got _ _ _ _ _ _ _ _ _ (c .before .before .before .before .before
+      .before .before .before .before .before .before .before .before .before .before .before .before .before .before
+      .before .before .before .before .before .before .before .pre .1 .0) _ _ _ _ _ (gives-tree _ _ (c .before .before
+      .before .before .before .before .before .before .before .before .before .before .before .before .before .before
+      .before .before .before .read-tree .ensures) (c .before .before .before .before .before .before .before .before
+      .before .before .before .before .before .before .before .before .before .comma .given .1)) _ _ _ _ _ _
+      (gives-tree _ _ (c .before .before .before .before .before .before .before .before .before .before .read-tree2
+      .ensures) (c .before .before .before .before .before .before .before .before .close .given .1)) _ _ _ _ _ _ _
+      (pair-whole _ _ _ _ _ _ (c .before .before .before .before .before .before .before .before .before .before
+      .before .before .before .before .before .before .before .before .before .before .before .before .before .if1
+      .left) _ _ _ ((gives-tree _ _ (c .before .before .before .before .before .before .before .before .before .before
+      .before .before .before .before .before .before .before .before .before .read-tree .ensures) (c .before .before
+      .before .before .before .before .before .before .before .before .before .before .before .before .before .before
+      .before .comma .given .1)) .is) (test-yes (c .before .before .before .before .before .before .before .before
+      .before .before .before .before .before .before .before .byte-is .ensures) (c .before .before .before .before
+      .before .before .before .before .before .before .before .before .before .before .if2 .left)) _ _ _ ((gives-tree _
+      _ (c .before .before .before .before .before .before .before .before .before .before .read-tree2 .ensures) (c
+      .before .before .before .before .before .before .before .before .close .given .1)) .is) (test-yes (c .before
+      .before .before .before .before .before .byte-is2 .ensures) (c .before .before .before .before .before .if3
+      .left))) (c .before .before .narrow .ensures) (c .before .narrow2 .ensures) (c .put-node .ensures .0) (c
+      .put-node .ensures .1) refl;
+}
 
 read-tree-byte-is-requires : (t : ℕ) → read-tree-lts.Need-byte-is-requires (
   byte-is-reads.Asked,
@@ -362,7 +495,16 @@ read-tree-read-pair-requires : (t : ℕ) → read-tree-lts.Need-read-pair-requir
   read-name-reads.Asked,
   read-name-reads.Learnt,
 ) (read-tree-at t) read-tree.Post
-read-tree-read-pair-requires t c κs = (let e = c .before .before .before .before .before .before .before .pre .0 in omega arith, (c .before .before .before .before .before .before .before .pre .1, byte-inside (c .before .before .before .before .before .before .before .args .sheet .now) _ 40 (omega arith) (sym (c .before .before .before .before .byte-is .ensures) ∙ c .before .before .before .if1 .taken)))
+read-tree-read-pair-requires t c κs = (
+  let e = c .before .before .before .before .before .before .before .pre .0 in
+      omega arith,
+  (
+    c .before .before .before .before .before .before .before .pre .1,
+    byte-inside (c .before .before
+        .before .before .before .before .before .args .sheet .now) _ 40 (omega arith) (sym (c .before .before .before
+        .before .byte-is .ensures) ∙ c .before .before .before .if1 .taken),
+  ),
+)
 
 read-tree-returns : (t : ℕ) → read-tree-lts.Need-returns (
   byte-is-reads.Asked,
@@ -372,7 +514,8 @@ read-tree-returns : (t : ℕ) → read-tree-lts.Need-returns (
   read-name-reads.Asked,
   read-name-reads.Learnt,
 ) (read-tree-at t) read-tree.Post
-read-tree-returns t c = gives-same (tree-pair _ _ _ _ _ _ (sym (c .before .before .before .before .before .byte-is .ensures) ∙ c .before .before .before .before .if1 .taken)) (c .read-pair .ensures)
+read-tree-returns t c = gives-same (tree-pair _ _ _ _ _ _ (sym (c .before .before .before .before .before .byte-is
+    .ensures) ∙ c .before .before .before .before .if1 .taken)) (c .read-pair .ensures)
 
 read-tree-read-name-requires : (t : ℕ) → read-tree-lts.Need-read-name-requires (
   byte-is-reads.Asked,
@@ -392,7 +535,8 @@ read-tree-returns-2 : (t : ℕ) → read-tree-lts.Need-returns-2 (
   read-name-reads.Asked,
   read-name-reads.Learnt,
 ) (read-tree-at t) read-tree.Post
-read-tree-returns-2 t c = gives-same (tree-name _ _ _ _ _ _ (sym (c .before .before .before .before .before .byte-is .ensures) ∙ c .before .before .before .before .if1 .left)) (c .read-name .ensures)
+read-tree-returns-2 t c = gives-same (tree-name _ _ _ _ _ _ (sym (c .before .before .before .before .before .byte-is
+    .ensures) ∙ c .before .before .before .before .if1 .left)) (c .read-name .ensures)
 
 pub +read-pair+read-tree-spec : {M : Type 1} → statement M
 +read-pair+read-tree-spec = close μ-read-pair μ-read-tree (λ t. read-pair-lts.spec (

@@ -9,7 +9,9 @@ use Rattle.newick.proofs.byte_is.Statement.{statement}
 use Rattle.newick.proofs.byte_is.Tie as tie
 
 returns : tie.Need-returns
-returns c = sym (ne-eqb (getD (c .before .args .sheet .now) (c .before .args .i) 0) (c .before .args .byte) (λ e. let z : getD (c .before .args .sheet .now) (c .before .args .i) 0 ≡ 0 = List·getD-eq-default (c .before .args .sheet .now) 0 (c .if1 .taken) in let p = (c .before .pre) in omega arith))
+returns c = sym (ne-eqb (getD (c .before .args .sheet .now) (c .before .args .i) 0) (c .before .args .byte) (λ e. let
+    z : getD (c .before .args .sheet .now) (c .before .args .i) 0 ≡ 0 = List·getD-eq-default (c .before .args .sheet
+    .now) 0 (c .if1 .taken) in let p = (c .before .pre) in omega arith))
 
 shared-slice-read-if2 : tie.Need-shared-slice-read-if2
 shared-slice-read-if2 c = search needs

@@ -27,7 +27,9 @@ is-line-requires : tie.Need-is-line-requires Inv-loop μ-loop
 is-line-requires c κs = search needs
 
 returns : tie.Need-returns Inv-loop μ-loop
-returns c = sym (sym (search-begin _ _ _ _ _) ∙ c .before .before .before .before .loop .inv ∙ search-found _ _ _ _ _ _ (c .before .before .before .before .before .before .before .pre .0) (c .before .before .before .loop-test .taken) (sym (c .before .is-line .ensures) ∙ c .if1 .taken))
+returns c = sym (sym (search-begin _ _ _ _ _) ∙ c .before .before .before .before .loop .inv ∙ search-found _ _ _ _ _
+    _ (c .before .before .before .before .before .before .before .pre .0) (c .before .before .before .loop-test
+    .taken) (sym (c .before .is-line .ensures) ∙ c .if1 .taken))
 
 add-r : tie.Need-add-r Inv-loop μ-loop
 add-r c = search needs
@@ -36,10 +38,13 @@ loop-less : tie.Need-loop-less Inv-loop μ-loop
 loop-less c = search needs
 
 loop-again : tie.Need-loop-again Inv-loop μ-loop
-loop-again c = c .before .before .before .before .loop .inv ∙ search-more _ _ _ _ _ _ (c .before .before .before .before .before .before .before .pre .0) (c .before .before .before .loop-test .taken) (sym (c .before .is-line .ensures) ∙ c .if1 .left)
+loop-again c = c .before .before .before .before .loop .inv ∙ search-more _ _ _ _ _ _ (c .before .before .before
+    .before .before .before .before .pre .0) (c .before .before .before .loop-test .taken) (sym (c .before .is-line
+    .ensures) ∙ c .if1 .left)
 
 returns-2 : tie.Need-returns-2 Inv-loop μ-loop
-returns-2 c = sym (sym (search-begin _ _ _ _ _) ∙ c .before .loop .inv ∙ search-none _ _ _ _ _ _ (c .before .before .before .before .pre .0) (c .loop-test .left))
+returns-2 c = sym (sym (search-begin _ _ _ _ _) ∙ c .before .loop .inv ∙ search-none _ _ _ _ _ _ (c .before .before
+    .before .before .pre .0) (c .loop-test .left))
 
 pub find-row-spec : {M : Type 1} → statement M
 find-row-spec =

@@ -28,10 +28,12 @@ byte-is-requires : tie.Need-byte-is-requires
 byte-is-requires c κs = search needs
 
 returns : tie.Need-returns
-returns c = line-not _ _ _ _ (c .before .before .before .before .before .pre .0) (sym (c .before .before .word-end .ensures) ∙ c .enum-told .given .1)
+returns c = line-not _ _ _ _ (c .before .before .before .before .before .pre .0) (sym (c .before .before .word-end
+    .ensures) ∙ c .enum-told .given .1)
 
 returns-2 : tie.Need-returns-2
-returns-2 c = line-end _ _ _ _ (c .before .before .before .before .before .before .before .pre .0) _ _ (sym (c .before .before .before .before .word-end .ensures) ∙ c .before .before .stop .given .1) (c .byte-is .ensures)
+returns-2 c = line-end _ _ _ _ (c .before .before .before .before .before .before .before .pre .0) _ _ (sym (c
+    .before .before .before .before .word-end .ensures) ∙ c .before .before .stop .given .1) (c .byte-is .ensures)
 
 pub is-line-spec : {M : Type 1} → statement M
 is-line-spec =

@@ -27,7 +27,8 @@ name-byte-requires : tie.Need-name-byte-requires Inv-loop μ-loop
 name-byte-requires c κs = search needs
 
 returns : tie.Need-returns Inv-loop μ-loop
-returns c = sym (c .before .before .before .before .loop .inv ∙ token-stop _ _ (c .before .before .before .loop-test .taken) (test-no (c .before .name-byte .ensures) (c .if1 .taken)))
+returns c = sym (c .before .before .before .before .loop .inv ∙ token-stop _ _ (c .before .before .before .loop-test
+    .taken) (test-no (c .before .name-byte .ensures) (c .if1 .taken)))
 
 add-i : tie.Need-add-i Inv-loop μ-loop
 add-i c = search needs
@@ -36,7 +37,8 @@ loop-less : tie.Need-loop-less Inv-loop μ-loop
 loop-less c = search needs
 
 loop-again : tie.Need-loop-again Inv-loop μ-loop
-loop-again c = c .before .before .before .before .loop .inv ∙ token-more _ _ (c .before .before .before .loop-test .taken) (test-yes (c .before .name-byte .ensures) (c .if1 .left))
+loop-again c = c .before .before .before .before .loop .inv ∙ token-more _ _ (c .before .before .before .loop-test
+    .taken) (test-yes (c .before .name-byte .ensures) (c .if1 .left))
 
 returns-2 : tie.Need-returns-2 Inv-loop μ-loop
 returns-2 c = sym (c .before .loop .inv ∙ token-end _ _ (c .loop-test .left))

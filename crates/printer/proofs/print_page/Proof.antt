@@ -12,19 +12,40 @@ use Rattle.printer.proofs.print_page.Statement.{statement}
 use Rattle.printer.proofs.print_page.Tie as tie
 
 abbrev Inv-loop : tie.InvT-loop
-Inv-loop sheet s costs left right first total cells₀ states₀ sets₀ rows₀ line₀ page₀ next₀ size₀ all₀ cells states sets rows line page next size all = Turn sheet first total page₀ left right cells states sets rows line page next size all × (length states ≡ length states₀) × (length sets ≡ length sets₀) × (length rows ≡ length rows₀) × (length line ≡ length line₀)
+Inv-loop sheet s costs left right first total cells₀ states₀ sets₀ rows₀ line₀ page₀ next₀ size₀ all₀ cells states
+    sets rows line page next size all = Turn sheet first total page₀ left right cells states sets rows line page next
+    size all × (length states ≡ length states₀) × (length sets ≡ length sets₀) × (length rows ≡ length rows₀) ×
+    (length line ≡ length line₀)
 
 abbrev μ-loop : tie.MeasureT-loop
-μ-loop sheet s costs left right first total cells₀ states₀ sets₀ rows₀ line₀ page₀ next₀ size₀ all₀ cells states sets rows line page next size all = s .columns - next
+μ-loop sheet s costs left right first total cells₀ states₀ sets₀ rows₀ line₀ page₀ next₀ size₀ all₀ cells states sets
+    rows line page next size all = s .columns - next
 
 loop-holds : tie.Need-loop-holds Inv-loop μ-loop
-loop-holds c = (turn-none _ _ _ _ _ _ _ _ _ _ _ _ _ (c .before .before .before .before .before .before .before .before .before .pre .0) (c .before .before .before .before .before .before .before .before .before .pre .1 .0) (c .before .before .before .before .before .before .before .before .before .pre .1 .1 .0) (c .before .before .before .before .before .before .before .before .before .pre .1 .1 .2), refl, refl, refl, refl)
+loop-holds c = (
+  turn-none _ _ _ _ _ _ _ _ _ _ _ _ _ (c .before .before .before .before .before .before .before
+      .before .before .pre .0) (c .before .before .before .before .before .before .before .before .before .pre .1 .0)
+      (c .before .before .before .before .before .before .before .before .before .pre .1 .1 .0) (c .before .before
+      .before .before .before .before .before .before .before .pre .1 .1 .2),
+  refl,
+  refl,
+  refl,
+  refl,
+)
 
 add-if2 : tie.Need-add-if2 Inv-loop μ-loop
-add-if2 c = record { fits = let f = (c .before .before .loop .inv .0) .fits in let q = (c .before .before .loop .inv .0) .same in let g = c .before .before .before .before .before .before .before .before .before .before .before .before .good in omega arith }
+add-if2 c = record {
+  fits = let f = (c .before .before .loop .inv .0) .fits in let q = (c .before .before .loop .inv
+      .0) .same in let g = c .before .before .before .before .before .before .before .before .before .before .before
+      .before .good in omega arith;
+}
 
 add-if2-2 : tie.Need-add-if2-2 Inv-loop μ-loop
-add-if2-2 c = record { fits = let f = (c .before .before .loop .inv .0) .fits in let q = (c .before .before .loop .inv .0) .same in let g = c .before .before .before .before .before .before .before .before .before .before .before .before .good in omega arith }
+add-if2-2 c = record {
+  fits = let f = (c .before .before .loop .inv .0) .fits in let q = (c .before .before .loop
+      .inv .0) .same in let g = c .before .before .before .before .before .before .before .before .before .before
+      .before .before .good in omega arith;
+}
 
 same-length : tie.Need-same-length Inv-loop μ-loop
 same-length c = search needs
@@ -42,16 +63,50 @@ same-length-5 : tie.Need-same-length-5 Inv-loop μ-loop
 same-length-5 c = search needs
 
 returns : tie.Need-returns Inv-loop μ-loop
-returns c = (turn-full _ _ _ _ _ _ _ _ _ _ _ _ _ _ _ _ _ (c .before .before .before .before .before .before .before .before .before .before .before .before .before .pre .0) (c .before .before .before .loop .inv .0) (c .before .before .before .before .before .before .before .before .before .before .before .before .before .pre .1 .1 .1) (c .if2 .taken), (c .before .before .before .loop .inv .0) .room .cellsLong, (c .before .before .before .loop .inv .0) .few, (c .before .before .before .loop .inv .0) .fits)
+returns c = (
+  turn-full _ _ _ _ _ _ _ _ _ _ _ _ _ _ _ _ _ (c .before .before .before .before .before .before .before
+      .before .before .before .before .before .before .pre .0) (c .before .before .before .loop .inv .0) (c .before
+      .before .before .before .before .before .before .before .before .before .before .before .before .pre .1 .1 .1) (c
+      .if2 .taken),
+  (c .before .before .before .loop .inv .0) .room .cellsLong,
+  (c .before .before .before .loop .inv
+      .0) .few,
+  (c .before .before .before .loop .inv .0) .fits,
+)
 
 put-line-requires : tie.Need-put-line-requires Inv-loop μ-loop
-put-line-requires c κs = (turn-ready _ _ _ _ _ _ _ _ _ _ _ _ _ _ _ _ _ (c .before .before .before .before .before .before .before .before .before .before .before .before .before .before .before .before .before .before .before .pre .0) (c .before .before .before .before .before .before .before .before .before .loop .inv .0) (c .before .before .before .before .before .before .before .if1 .taken), ((c .before .before .before .before .before .before .before .before .before .loop .inv .0) .room, ((c .before .before .before .before .before .before .before .before .before .loop .inv .0) .long, let f = c .before .before .before .before .before .before .if2 .left in omega arith)))
+put-line-requires c κs = (
+  turn-ready _ _ _ _ _ _ _ _ _ _ _ _ _ _ _ _ _ (c .before .before .before .before .before
+      .before .before .before .before .before .before .before .before .before .before .before .before .before .before
+      .pre .0) (c .before .before .before .before .before .before .before .before .before .loop .inv .0) (c .before
+      .before .before .before .before .before .before .if1 .taken),
+  (
+    (c .before .before .before .before .before .before
+        .before .before .before .loop .inv .0) .room,
+    (
+      (c .before .before .before .before .before .before .before .before
+          .before .loop .inv .0) .long,
+      let f = c .before .before .before .before .before .before .if2 .left in omega arith,
+    ),
+  ),
+)
 
 wide-requires : tie.Need-wide-requires Inv-loop μ-loop
 wide-requires c κs = search needs
 
 add-all : tie.Need-add-all Inv-loop μ-loop
-add-all c = record { fits = let few = (c .before .before .before .before .before .before .before .before .before .before .before .before .before .before .before .before .before .before .before .before .before .loop .inv .0) .few in let j = ready-nodes _ _ _ _ _ _ (turn-ready _ _ _ _ _ _ _ _ _ _ _ _ _ _ _ _ _ (c .before .before .before .before .before .before .before .before .before .before .before .before .before .before .before .before .before .before .before .before .before .before .before .before .before .before .before .before .before .before .before .pre .0) (c .before .before .before .before .before .before .before .before .before .before .before .before .before .before .before .before .before .before .before .before .before .loop .inv .0) (c .before .before .before .before .before .before .before .before .before .before .before .before .before .before .before .before .before .before .before .if1 .taken)) .1 in let w = c .before .before .before .before .before .before .before .before .before .before .before .put-line .ok in let e = c .wide .ensures in omega arith }
+add-all c = record {
+  fits = let few = (c .before .before .before .before .before .before .before .before .before
+      .before .before .before .before .before .before .before .before .before .before .before .before .loop .inv .0)
+      .few in let j = ready-nodes _ _ _ _ _ _ (turn-ready _ _ _ _ _ _ _ _ _ _ _ _ _ _ _ _ _ (c .before .before .before
+      .before .before .before .before .before .before .before .before .before .before .before .before .before .before
+      .before .before .before .before .before .before .before .before .before .before .before .before .before .before
+      .pre .0) (c .before .before .before .before .before .before .before .before .before .before .before .before
+      .before .before .before .before .before .before .before .before .before .loop .inv .0) (c .before .before .before
+      .before .before .before .before .before .before .before .before .before .before .before .before .before .before
+      .before .before .if1 .taken)) .1 in let w = c .before .before .before .before .before .before .before .before
+      .before .before .before .put-line .ok in let e = c .wide .ensures in omega arith;
+}
 
 add-next : tie.Need-add-next Inv-loop μ-loop
 add-next c = search needs
@@ -60,7 +115,45 @@ loop-less : tie.Need-loop-less Inv-loop μ-loop
 loop-less c = search needs
 
 loop-again : tie.Need-loop-again Inv-loop μ-loop
-loop-again c = (turn-more _ _ _ _ _ _ _ _ _ _ _ _ _ _ _ _ _ (c .before .before .before .before .before .before .before .before .before .before .before .before .before .before .before .before .before .before .before .before .before .before .before .before .before .before .before .before .before .before .before .pre .0) (c .before .before .before .before .before .before .before .before .before .before .before .before .before .before .before .before .before .before .before .before .before .loop .inv .0) (c .before .before .before .before .before .before .before .before .before .before .before .before .before .before .before .before .before .before .before .if1 .taken) _ _ _ _ _ _ _ _ _ (c .before .before .before .before .before .before .before .before .before .before .before .put-line .ensures .0) (let w = c .before .before .before .before .before .before .before .before .before .before .before .put-line .ok in omega arith) (let w = c .wide .ensures in omega arith) (room-kept _ _ _ _ _ _ _ _ _ _ _ _ ((c .before .before .before .before .before .before .before .before .before .before .before .before .before .before .before .before .before .before .before .before .before .loop .inv .0) .room) (c .before .before .before .before .before .before .before .before .before .before .before .put-line .ensures .1) (c .before .before .before .before .before .before .before .before .before .before .before .put-line .kept .1 .1 .1 .1 .1 .1 .1 .0) (c .before .before .before .before .before .before .before .before .before .before .before .put-line .kept .1 .1 .1 .1 .1 .1 .1 .1 .0) (c .before .before .before .before .before .before .before .before .before .before .before .put-line .kept .1 .1 .1 .1 .1 .1 .1 .1 .1 .0) (c .before .before .before .before .before .before .before .before .before .before .before .put-line .kept .1 .1 .1 .1 .1 .1 .1 .1 .1 .1 .0)) ((c .before .before .before .before .before .before .before .before .before .before .before .put-line .kept .1 .1 .1 .1 .1 .1 .1 .1 .1 .1 .0) ∙ (c .before .before .before .before .before .before .before .before .before .before .before .before .before .before .before .before .before .before .before .before .before .loop .inv .0) .long) (c .before .before .before .before .before .before .before .before .before .before .before .put-line .kept .1 .1 .1 .1 .1 .1 .1 .1 .1 .1 .1 .0) (c .before .before .before .before .before .before .before .before .before .before .before .put-line .ensures .2), (c .before .before .before .before .before .before .before .before .before .before .before .put-line .kept .1 .1 .1 .1 .1 .1 .1 .0) ∙ c .before .before .before .before .before .before .before .before .before .before .before .before .before .before .before .before .before .before .before .before .before .loop .inv .1, (c .before .before .before .before .before .before .before .before .before .before .before .put-line .kept .1 .1 .1 .1 .1 .1 .1 .1 .0) ∙ c .before .before .before .before .before .before .before .before .before .before .before .before .before .before .before .before .before .before .before .before .before .loop .inv .2, (c .before .before .before .before .before .before .before .before .before .before .before .put-line .kept .1 .1 .1 .1 .1 .1 .1 .1 .1 .0) ∙ c .before .before .before .before .before .before .before .before .before .before .before .before .before .before .before .before .before .before .before .before .before .loop .inv .3, (c .before .before .before .before .before .before .before .before .before .before .before .put-line .kept .1 .1 .1 .1 .1 .1 .1 .1 .1 .1 .0) ∙ c .before .before .before .before .before .before .before .before .before .before .before .before .before .before .before .before .before .before .before .before .before .loop .inv .4)
+loop-again c = (
+  turn-more _ _ _ _ _ _ _ _ _ _ _ _ _ _ _ _ _ (c .before .before .before .before .before .before
+      .before .before .before .before .before .before .before .before .before .before .before .before .before .before
+      .before .before .before .before .before .before .before .before .before .before .before .pre .0) (c .before
+      .before .before .before .before .before .before .before .before .before .before .before .before .before .before
+      .before .before .before .before .before .before .loop .inv .0) (c .before .before .before .before .before .before
+      .before .before .before .before .before .before .before .before .before .before .before .before .before .if1
+      .taken) _ _ _ _ _ _ _ _ _ (c .before .before .before .before .before .before .before .before .before .before
+      .before .put-line .ensures .0) (let w = c .before .before .before .before .before .before .before .before .before
+      .before .before .put-line .ok in omega arith) (let w = c .wide .ensures in omega arith) (room-kept _ _ _ _ _ _ _
+      _ _ _ _ _ ((c .before .before .before .before .before .before .before .before .before .before .before .before
+      .before .before .before .before .before .before .before .before .before .loop .inv .0) .room) (c .before .before
+      .before .before .before .before .before .before .before .before .before .put-line .ensures .1) (c .before .before
+      .before .before .before .before .before .before .before .before .before .put-line .kept .1 .1 .1 .1 .1 .1 .1 .0)
+      (c .before .before .before .before .before .before .before .before .before .before .before .put-line .kept .1 .1
+      .1 .1 .1 .1 .1 .1 .0) (c .before .before .before .before .before .before .before .before .before .before .before
+      .put-line .kept .1 .1 .1 .1 .1 .1 .1 .1 .1 .0) (c .before .before .before .before .before .before .before .before
+      .before .before .before .put-line .kept .1 .1 .1 .1 .1 .1 .1 .1 .1 .1 .0)) ((c .before .before .before .before
+      .before .before .before .before .before .before .before .put-line .kept .1 .1 .1 .1 .1 .1 .1 .1 .1 .1 .0) ∙ (c
+      .before .before .before .before .before .before .before .before .before .before .before .before .before .before
+      .before .before .before .before .before .before .before .loop .inv .0) .long) (c .before .before .before .before
+      .before .before .before .before .before .before .before .put-line .kept .1 .1 .1 .1 .1 .1 .1 .1 .1 .1 .1 .0) (c
+      .before .before .before .before .before .before .before .before .before .before .before .put-line .ensures .2),
+  (c .before .before .before .before .before .before .before .before .before .before .before .put-line .kept .1 .1
+      .1 .1 .1 .1 .1 .0) ∙ c .before .before .before .before .before .before .before .before .before .before .before
+      .before .before .before .before .before .before .before .before .before .before .loop .inv .1,
+  (c .before .before
+      .before .before .before .before .before .before .before .before .before .put-line .kept .1 .1 .1 .1 .1 .1 .1 .1
+      .0) ∙ c .before .before .before .before .before .before .before .before .before .before .before .before .before
+      .before .before .before .before .before .before .before .before .loop .inv .2,
+  (c .before .before .before .before
+      .before .before .before .before .before .before .before .put-line .kept .1 .1 .1 .1 .1 .1 .1 .1 .1 .0) ∙ c
+      .before .before .before .before .before .before .before .before .before .before .before .before .before .before
+      .before .before .before .before .before .before .before .loop .inv .3,
+  (c .before .before .before .before .before
+      .before .before .before .before .before .before .put-line .kept .1 .1 .1 .1 .1 .1 .1 .1 .1 .1 .0) ∙ c .before
+      .before .before .before .before .before .before .before .before .before .before .before .before .before .before
+      .before .before .before .before .before .before .loop .inv .4,
+)
 
 same-length-6 : tie.Need-same-length-6 Inv-loop μ-loop
 same-length-6 c = search needs
@@ -78,7 +171,15 @@ same-length-10 : tie.Need-same-length-10 Inv-loop μ-loop
 same-length-10 c = search needs
 
 returns-2 : tie.Need-returns-2 Inv-loop μ-loop
-returns-2 c = (turn-end _ _ _ _ _ _ _ _ _ _ _ _ _ _ _ _ _ (c .before .before .before .before .before .before .before .before .before .before .before .before .pre .0) (c .before .before .loop .inv .0) (c .if1 .left), (c .before .before .loop .inv .0) .room .cellsLong, (c .before .before .loop .inv .0) .few, (c .before .before .loop .inv .0) .fits)
+returns-2 c = (
+  turn-end _ _ _ _ _ _ _ _ _ _ _ _ _ _ _ _ _ (c .before .before .before .before .before .before .before
+      .before .before .before .before .before .pre .0) (c .before .before .loop .inv .0) (c .if1 .left),
+  (c .before
+      .before .loop .inv .0) .room .cellsLong,
+  (c .before .before .loop .inv .0) .few,
+  (c .before .before .loop .inv
+      .0) .fits,
+)
 
 pub print-page-spec : {M : Type 1} → statement M
 print-page-spec =

@@ -3,7 +3,16 @@
 use Rattle.answers.specs.Rules.{All}
 use Rattle.answers.specs.CallRules.{tableRules}
 use mathlib.Core.List.{[]}
-use Rattle.printer.proofs.PrintSteps.{ready-cells, ready-nodes, put-cells-are, ready-table, ready-rules, ready-printed, part-first, part-size}
+use Rattle.printer.proofs.PrintSteps.{
+  ready-cells,
+  ready-nodes,
+  put-cells-are,
+  ready-table,
+  ready-rules,
+  ready-printed,
+  part-first,
+  part-size,
+}
 use mathlib.Core.Path.{_∙_, sym, subst}
 use native.Mathlib.Omega.{arith}
 use borrow.Author.Needs.{needs}
@@ -11,7 +20,15 @@ use Rattle.printer.proofs.sheet_line.Statement.{statement}
 use Rattle.printer.proofs.sheet_line.Tie as tie
 
 put-cells-requires : tie.Need-put-cells-requires
-put-cells-requires c κs = (ready-cells _ _ _ _ _ _ (c .before .before .before .before .before .before .before .before .before .pre .0) .0, ready-cells _ _ _ _ _ _ (c .before .before .before .before .before .before .before .before .before .pre .0) .1, ready-cells _ _ _ _ _ _ (c .before .before .before .before .before .before .before .before .before .pre .0) .2, c .before .before .before .before .before .before .before .before .before .pre .1 .cellsLong)
+put-cells-requires c κs = (
+  ready-cells _ _ _ _ _ _ (c .before .before .before .before .before .before .before .before
+      .before .pre .0) .0,
+  ready-cells _ _ _ _ _ _ (c .before .before .before .before .before .before .before .before
+      .before .pre .0) .1,
+  ready-cells _ _ _ _ _ _ (c .before .before .before .before .before .before .before .before
+      .before .pre .0) .2,
+  c .before .before .before .before .before .before .before .before .before .pre .1 .cellsLong,
+)
 
 sub-column-line : tie.Need-sub-column-line
 sub-column-line c = search needs
@@ -20,7 +37,9 @@ part-column-line-start : tie.Need-part-column-line-start
 part-column-line-start c = search needs
 
 part-column-line-end : tie.Need-part-column-line-end
-part-column-line-end c = (let few = ready-nodes _ _ _ _ _ _ (c .before .before .before .before .before .before .before .before .before .before .before .before .pre .0) .0 in let long = c .before .before .before .before .before .before .before .before .before .before .before .before .pre .1 .leftLong in omega arith)
+part-column-line-end c = (let few = ready-nodes _ _ _ _ _ _ (c .before .before .before .before .before .before
+    .before .before .before .before .before .before .pre .0) .0 in let long = c .before .before .before .before
+    .before .before .before .before .before .before .before .before .pre .1 .leftLong in omega arith)
 
 sub-column-line-2 : tie.Need-sub-column-line-2
 sub-column-line-2 c = search needs
@@ -29,7 +48,9 @@ part-column-line-start-2 : tie.Need-part-column-line-start-2
 part-column-line-start-2 c = search needs
 
 part-column-line-end-2 : tie.Need-part-column-line-end-2
-part-column-line-end-2 c = (let few = ready-nodes _ _ _ _ _ _ (c .before .before .before .before .before .before .before .before .before .before .before .before .before .pre .0) .0 in let long = c .before .before .before .before .before .before .before .before .before .before .before .before .before .pre .1 .rightLong in omega arith)
+part-column-line-end-2 c = (let few = ready-nodes _ _ _ _ _ _ (c .before .before .before .before .before .before
+    .before .before .before .before .before .before .before .pre .0) .0 in let long = c .before .before .before
+    .before .before .before .before .before .before .before .before .before .before .pre .1 .rightLong in omega arith)
 
 sub-column-line-3 : tie.Need-sub-column-line-3
 sub-column-line-3 c = search needs
@@ -38,10 +59,76 @@ part-column-line-start-3 : tie.Need-part-column-line-start-3
 part-column-line-start-3 c = search needs
 
 part-column-line-end-3 : tie.Need-part-column-line-end-3
-part-column-line-end-3 c = (let few = ready-cells _ _ _ _ _ _ (c .before .before .before .before .before .before .before .before .before .before .before .before .before .before .pre .0) .0 in let long = c .before .before .before .before .put-cells .ensures .long in omega arith)
+part-column-line-end-3 c = (let few = ready-cells _ _ _ _ _ _ (c .before .before .before .before .before .before
+    .before .before .before .before .before .before .before .before .pre .0) .0 in let long = c .before .before
+    .before .before .put-cells .ensures .long in omega arith)
 
 column-line-requires : tie.Need-column-line-requires
-column-line-requires c κs = (subst (λ X. All (tableRules X [])) (sym (ready-table _ _ _ _ _ _ (c .before .before .before .before .before .before .before .before .before .before .before .before .before .before .before .before .before .before .before .pre .0) _ _ _ (part-first (c .before .before .before .before .before .before .before .before .before .before .before .before .before .before .before .before .before .before .before .args .left .now) (c .before .before .before .before .before .before .before .before .before .before .before .before .before .before .before .before .before .before .before .args .s .nodes)) (part-first (c .before .before .before .before .before .before .before .before .before .before .before .before .before .before .before .before .before .before .before .args .right .now) (c .before .before .before .before .before .before .before .before .before .before .before .before .before .before .before .before .before .before .before .args .s .nodes)) (part-first (c .before .before .before .before .before .before .before .before .before .put-cells .last .1 .1 .1 .1 .1 .0) (c .before .before .before .before .before .before .before .before .before .before .before .before .before .before .before .before .before .before .before .args .s .tips) ∙ put-cells-are _ _ _ _ _ _ (c .before .before .before .before .before .before .before .before .before .before .before .before .before .before .before .before .before .before .before .pre .0) _ (c .before .before .before .before .before .before .before .before .before .put-cells .ensures .long) (c .before .before .before .before .before .before .before .before .before .put-cells .ensures)))) (ready-rules _ _ _ _ _ _ (c .before .before .before .before .before .before .before .before .before .before .before .before .before .before .before .before .before .before .before .pre .0)), ((let l = part-size (c .before .before .before .before .before .before .before .before .before .before .before .before .before .before .before .before .before .before .before .args .left .now) (c .before .before .before .before .before .before .before .before .before .before .before .before .before .before .before .before .before .before .before .args .s .nodes) (let few = ready-nodes _ _ _ _ _ _ (c .before .before .before .before .before .before .before .before .before .before .before .before .before .before .before .before .before .before .before .pre .0) .0 in let long = c .before .before .before .before .before .before .before .before .before .before .before .before .before .before .before .before .before .before .before .pre .1 .leftLong in omega arith) in let few = ready-nodes _ _ _ _ _ _ (c .before .before .before .before .before .before .before .before .before .before .before .before .before .before .before .before .before .before .before .pre .0) .0 in let a = c .before .before .before .before .before .before .before .before .before .before .before .before .before .before .before .before .before .before .before .pre .1 .statesRoom in omega arith, let l = part-size (c .before .before .before .before .before .before .before .before .before .before .before .before .before .before .before .before .before .before .before .args .left .now) (c .before .before .before .before .before .before .before .before .before .before .before .before .before .before .before .before .before .before .before .args .s .nodes) (let few = ready-nodes _ _ _ _ _ _ (c .before .before .before .before .before .before .before .before .before .before .before .before .before .before .before .before .before .before .before .pre .0) .0 in let long = c .before .before .before .before .before .before .before .before .before .before .before .before .before .before .before .before .before .before .before .pre .1 .leftLong in omega arith) in let few = ready-nodes _ _ _ _ _ _ (c .before .before .before .before .before .before .before .before .before .before .before .before .before .before .before .before .before .before .before .pre .0) .0 in let a = c .before .before .before .before .before .before .before .before .before .before .before .before .before .before .before .before .before .before .before .pre .1 .setsRoom in omega arith), (let l = part-size (c .before .before .before .before .before .before .before .before .before .before .before .before .before .before .before .before .before .before .before .args .left .now) (c .before .before .before .before .before .before .before .before .before .before .before .before .before .before .before .before .before .before .before .args .s .nodes) (let few = ready-nodes _ _ _ _ _ _ (c .before .before .before .before .before .before .before .before .before .before .before .before .before .before .before .before .before .before .before .pre .0) .0 in let long = c .before .before .before .before .before .before .before .before .before .before .before .before .before .before .before .before .before .before .before .pre .1 .leftLong in omega arith) in let few = ready-nodes _ _ _ _ _ _ (c .before .before .before .before .before .before .before .before .before .before .before .before .before .before .before .before .before .before .before .pre .0) .0 in let a = c .before .before .before .before .before .before .before .before .before .before .before .before .before .before .before .before .before .before .before .pre .1 .rowsRoom in omega arith, ready-nodes _ _ _ _ _ _ (c .before .before .before .before .before .before .before .before .before .before .before .before .before .before .before .before .before .before .before .pre .0) .1, c .before .before .before .before .before .before .before .before .before .before .before .before .before .before .before .before .before .before .before .pre .1 .lineRoom)))
+column-line-requires c κs = (
+  subst (λ X. All (tableRules X [])) (sym (ready-table _ _ _ _ _ _ (c .before .before
+      .before .before .before .before .before .before .before .before .before .before .before .before .before .before
+      .before .before .before .pre .0) _ _ _ (part-first (c .before .before .before .before .before .before .before
+      .before .before .before .before .before .before .before .before .before .before .before .before .args .left .now)
+      (c .before .before .before .before .before .before .before .before .before .before .before .before .before
+      .before .before .before .before .before .before .args .s .nodes)) (part-first (c .before .before .before .before
+      .before .before .before .before .before .before .before .before .before .before .before .before .before .before
+      .before .args .right .now) (c .before .before .before .before .before .before .before .before .before .before
+      .before .before .before .before .before .before .before .before .before .args .s .nodes)) (part-first (c .before
+      .before .before .before .before .before .before .before .before .put-cells .last .1 .1 .1 .1 .1 .0) (c .before
+      .before .before .before .before .before .before .before .before .before .before .before .before .before .before
+      .before .before .before .before .args .s .tips) ∙ put-cells-are _ _ _ _ _ _ (c .before .before .before .before
+      .before .before .before .before .before .before .before .before .before .before .before .before .before .before
+      .before .pre .0) _ (c .before .before .before .before .before .before .before .before .before .put-cells .ensures
+      .long) (c .before .before .before .before .before .before .before .before .before .put-cells .ensures))))
+      (ready-rules _ _ _ _ _ _ (c .before .before .before .before .before .before .before .before .before .before
+      .before .before .before .before .before .before .before .before .before .pre .0)),
+  (
+    (
+      let l = part-size (c .before
+          .before .before .before .before .before .before .before .before .before .before .before .before .before .before
+          .before .before .before .before .args .left .now) (c .before .before .before .before .before .before .before
+          .before .before .before .before .before .before .before .before .before .before .before .before .args .s .nodes)
+          (let few = ready-nodes _ _ _ _ _ _ (c .before .before .before .before .before .before .before .before .before
+          .before .before .before .before .before .before .before .before .before .before .pre .0) .0 in let long = c
+          .before .before .before .before .before .before .before .before .before .before .before .before .before .before
+          .before .before .before .before .before .pre .1 .leftLong in omega arith) in let few = ready-nodes _ _ _ _ _ _ (c
+          .before .before .before .before .before .before .before .before .before .before .before .before .before .before
+          .before .before .before .before .before .pre .0) .0 in let a = c .before .before .before .before .before .before
+          .before .before .before .before .before .before .before .before .before .before .before .before .before .pre .1
+          .statesRoom in omega arith,
+      let l = part-size (c .before .before .before .before .before .before .before .before
+          .before .before .before .before .before .before .before .before .before .before .before .args .left .now) (c
+          .before .before .before .before .before .before .before .before .before .before .before .before .before .before
+          .before .before .before .before .before .args .s .nodes) (let few = ready-nodes _ _ _ _ _ _ (c .before .before
+          .before .before .before .before .before .before .before .before .before .before .before .before .before .before
+          .before .before .before .pre .0) .0 in let long = c .before .before .before .before .before .before .before
+          .before .before .before .before .before .before .before .before .before .before .before .before .pre .1 .leftLong
+          in omega arith) in let few = ready-nodes _ _ _ _ _ _ (c .before .before .before .before .before .before .before
+          .before .before .before .before .before .before .before .before .before .before .before .before .pre .0) .0 in
+          let a = c .before .before .before .before .before .before .before .before .before .before .before .before .before
+          .before .before .before .before .before .before .pre .1 .setsRoom in omega arith,
+    ),
+    (
+      let l = part-size (c .before
+          .before .before .before .before .before .before .before .before .before .before .before .before .before .before
+          .before .before .before .before .args .left .now) (c .before .before .before .before .before .before .before
+          .before .before .before .before .before .before .before .before .before .before .before .before .args .s .nodes)
+          (let few = ready-nodes _ _ _ _ _ _ (c .before .before .before .before .before .before .before .before .before
+          .before .before .before .before .before .before .before .before .before .before .pre .0) .0 in let long = c
+          .before .before .before .before .before .before .before .before .before .before .before .before .before .before
+          .before .before .before .before .before .pre .1 .leftLong in omega arith) in let few = ready-nodes _ _ _ _ _ _ (c
+          .before .before .before .before .before .before .before .before .before .before .before .before .before .before
+          .before .before .before .before .before .pre .0) .0 in let a = c .before .before .before .before .before .before
+          .before .before .before .before .before .before .before .before .before .before .before .before .before .pre .1
+          .rowsRoom in omega arith,
+      ready-nodes _ _ _ _ _ _ (c .before .before .before .before .before .before .before
+          .before .before .before .before .before .before .before .before .before .before .before .before .pre .0) .1,
+      c
+          .before .before .before .before .before .before .before .before .before .before .before .before .before .before
+          .before .before .before .before .before .pre .1 .lineRoom,
+    ),
+  ),
+)
 
 same-length : tie.Need-same-length
 same-length c = search needs
@@ -56,7 +143,35 @@ same-length-4 : tie.Need-same-length-4
 same-length-4 c = search needs
 
 returns : tie.Need-returns
-returns c = (ready-printed _ _ _ _ _ _ (c .before .before .before .before .before .before .before .before .before .before .before .before .before .before .before .before .before .before .before .before .before .before .before .before .before .before .before .before .pre .0) _ (ready-table _ _ _ _ _ _ (c .before .before .before .before .before .before .before .before .before .before .before .before .before .before .before .before .before .before .before .before .before .before .before .before .before .before .before .before .pre .0) _ _ _ (part-first (c .before .before .before .before .before .before .before .before .before .before .before .before .before .before .before .before .before .before .before .before .before .before .before .before .before .before .before .before .args .left .now) (c .before .before .before .before .before .before .before .before .before .before .before .before .before .before .before .before .before .before .before .before .before .before .before .before .before .before .before .before .args .s .nodes)) (part-first (c .before .before .before .before .before .before .before .before .before .before .before .before .before .before .before .before .before .before .before .before .before .before .before .before .before .before .before .before .args .right .now) (c .before .before .before .before .before .before .before .before .before .before .before .before .before .before .before .before .before .before .before .before .before .before .before .before .before .before .before .before .args .s .nodes)) (part-first (c .before .before .before .before .before .before .before .before .before .before .before .before .before .before .before .before .before .before .put-cells .last .1 .1 .1 .1 .1 .0) (c .before .before .before .before .before .before .before .before .before .before .before .before .before .before .before .before .before .before .before .before .before .before .before .before .before .before .before .before .args .s .tips) ∙ put-cells-are _ _ _ _ _ _ (c .before .before .before .before .before .before .before .before .before .before .before .before .before .before .before .before .before .before .before .before .before .before .before .before .before .before .before .before .pre .0) _ (c .before .before .before .before .before .before .before .before .before .before .before .before .before .before .before .before .before .before .put-cells .ensures .long) (c .before .before .before .before .before .before .before .before .before .before .before .before .before .before .before .before .before .before .put-cells .ensures))) _ _ _ _ _ _ _ _ _ _ (c .before .before .before .before .before .before .before .before .column-line .ensures), c .before .before .before .before .before .before .before .before .before .before .before .before .before .before .before .before .before .before .put-cells .ensures .long)
+returns c = (
+  ready-printed _ _ _ _ _ _ (c .before .before .before .before .before .before .before .before .before
+      .before .before .before .before .before .before .before .before .before .before .before .before .before .before
+      .before .before .before .before .before .pre .0) _ (ready-table _ _ _ _ _ _ (c .before .before .before .before
+      .before .before .before .before .before .before .before .before .before .before .before .before .before .before
+      .before .before .before .before .before .before .before .before .before .before .pre .0) _ _ _ (part-first (c
+      .before .before .before .before .before .before .before .before .before .before .before .before .before .before
+      .before .before .before .before .before .before .before .before .before .before .before .before .before .before
+      .args .left .now) (c .before .before .before .before .before .before .before .before .before .before .before
+      .before .before .before .before .before .before .before .before .before .before .before .before .before .before
+      .before .before .before .args .s .nodes)) (part-first (c .before .before .before .before .before .before .before
+      .before .before .before .before .before .before .before .before .before .before .before .before .before .before
+      .before .before .before .before .before .before .before .args .right .now) (c .before .before .before .before
+      .before .before .before .before .before .before .before .before .before .before .before .before .before .before
+      .before .before .before .before .before .before .before .before .before .before .args .s .nodes)) (part-first (c
+      .before .before .before .before .before .before .before .before .before .before .before .before .before .before
+      .before .before .before .before .put-cells .last .1 .1 .1 .1 .1 .0) (c .before .before .before .before .before
+      .before .before .before .before .before .before .before .before .before .before .before .before .before .before
+      .before .before .before .before .before .before .before .before .before .args .s .tips) ∙ put-cells-are _ _ _ _ _
+      _ (c .before .before .before .before .before .before .before .before .before .before .before .before .before
+      .before .before .before .before .before .before .before .before .before .before .before .before .before .before
+      .before .pre .0) _ (c .before .before .before .before .before .before .before .before .before .before .before
+      .before .before .before .before .before .before .before .put-cells .ensures .long) (c .before .before .before
+      .before .before .before .before .before .before .before .before .before .before .before .before .before .before
+      .before .put-cells .ensures))) _ _ _ _ _ _ _ _ _ _ (c .before .before .before .before .before .before .before
+      .before .column-line .ensures),
+  c .before .before .before .before .before .before .before .before .before .before
+      .before .before .before .before .before .before .before .before .put-cells .ensures .long,
+)
 
 pub sheet-line-spec : {M : Type 1} → statement M
 sheet-line-spec =

@@ -11,10 +11,13 @@ use Rattle.report.proofs.write_columns.Statement.{statement}
 use Rattle.report.proofs.write_columns.Tie as tie
 
 abbrev Inv-loop : tie.InvT-loop
-Inv-loop sheet s costs left right cells₀ states₀ sets₀ rows₀ line₀ page₀ next₀ total₀ cells states sets rows line page next total = (next ≤ s .columns) × (total ≤ next * 4294967295) × (length cells ≡ 512) × (length states ≡ 1023) × (length sets ≡ 1023) × (length rows ≡ 4092) × (length line ≡ 1056) × (length page ≡ 65536)
+Inv-loop sheet s costs left right cells₀ states₀ sets₀ rows₀ line₀ page₀ next₀ total₀ cells states sets rows line
+    page next total = (next ≤ s .columns) × (total ≤ next * 4294967295) × (length cells ≡ 512) × (length states ≡
+    1023) × (length sets ≡ 1023) × (length rows ≡ 4092) × (length line ≡ 1056) × (length page ≡ 65536)
 
 abbrev μ-loop : tie.MeasureT-loop
-μ-loop sheet s costs left right cells₀ states₀ sets₀ rows₀ line₀ page₀ next₀ total₀ cells states sets rows line page next total = s .columns - next
+μ-loop sheet s costs left right cells₀ states₀ sets₀ rows₀ line₀ page₀ next₀ total₀ cells states sets rows line page
+    next total = s .columns - next
 
 loop-holds : tie.Need-loop-holds Inv-loop μ-loop
 loop-holds c = (omega arith, omega arith, refl, refl, refl, refl, refl, refl)
@@ -35,7 +38,37 @@ slice-aggregate-print-page-5 : tie.Need-slice-aggregate-print-page-5 Inv-loop μ
 slice-aggregate-print-page-5 c = sym (c .before .before .before .before .before .before .before .before .loop .inv .7)
 
 print-page-requires : tie.Need-print-page-requires Inv-loop μ-loop
-print-page-requires c κs = (from-next _ _ _ _ _ (c .before .before .before .before .before .before .before .before .before .before .before .before .before .pre .0) _ (c .before .before .before .before .before .before .before .before .loop .inv .0), (record { leftLong = c .before .before .before .before .before .before .before .before .before .before .before .before .before .pre .1 .0; rightLong = c .before .before .before .before .before .before .before .before .before .before .before .before .before .pre .1 .1; cellsLong = (c .before .before .before .before .before .before .before .before .loop .inv .2); statesRoom = (let e = (c .before .before .before .before .before .before .before .before .loop .inv .3) in omega arith); setsRoom = (let e = (c .before .before .before .before .before .before .before .before .loop .inv .4) in omega arith); rowsRoom = (let e = (c .before .before .before .before .before .before .before .before .loop .inv .5) in omega arith); lineRoom = (let e = (c .before .before .before .before .before .before .before .before .loop .inv .6) in omega arith) }, ((c .before .before .before .before .before .before .before .before .loop .inv .6), (let e = (c .before .before .before .before .before .before .before .before .loop .inv .7) in omega arith), (c .before .before .before .before .before .before .before .before .loop .inv .1))))
+print-page-requires c κs = (
+  from-next _ _ _ _ _ (c .before .before .before .before .before .before .before .before
+      .before .before .before .before .before .pre .0) _ (c .before .before .before .before .before .before .before
+      .before .loop .inv .0),
+  (
+    record {
+      leftLong = c .before .before .before .before .before .before .before .before
+          .before .before .before .before .before .pre .1 .0;
+      rightLong = c .before .before .before .before .before .before
+          .before .before .before .before .before .before .before .pre .1 .1;
+      cellsLong = (c .before .before .before
+          .before .before .before .before .before .loop .inv .2);
+      statesRoom = (let e = (c .before .before .before .before
+          .before .before .before .before .loop .inv .3) in omega arith);
+      setsRoom = (let e = (c .before .before .before
+          .before .before .before .before .before .loop .inv .4) in omega arith);
+      rowsRoom = (let e = (c .before .before
+          .before .before .before .before .before .before .loop .inv .5) in omega arith);
+      lineRoom = (let e = (c .before
+          .before .before .before .before .before .before .before .loop .inv .6) in omega arith);
+    },
+    (
+      (c .before .before
+          .before .before .before .before .before .before .loop .inv .6),
+      (let e = (c .before .before .before .before
+          .before .before .before .before .loop .inv .7) in omega arith),
+      (c .before .before .before .before .before
+          .before .before .before .loop .inv .1),
+    ),
+  ),
+)
 
 sub-write-all : tie.Need-sub-write-all Inv-loop μ-loop
 sub-write-all c = search needs
@@ -50,10 +83,41 @@ write-all-requires : tie.Need-write-all-requires Inv-loop μ-loop
 write-all-requires c κs = search needs
 
 loop-less : tie.Need-loop-less Inv-loop μ-loop
-loop-less c = let p = page-next _ _ _ _ _ (c .before .before .before .before .before .before .before .before .before .before .before .before .before .before .before .before .before .before .before .before .before .before .pre .0) _ _ _ _ _ _ _ (c .before .before .before .before .before .before .before .before .print-page .ensures .0) (c .before .before .before .before .before .before .before .before .before .before .before .before .before .before .before .if1 .taken) in let a = p .0 in let b = p .1 in omega arith
+loop-less c = let p = page-next _ _ _ _ _ (c .before .before .before .before .before .before .before .before .before
+    .before .before .before .before .before .before .before .before .before .before .before .before .before .pre .0)
+    _ _ _ _ _ _ _ (c .before .before .before .before .before .before .before .before .print-page .ensures .0) (c
+    .before .before .before .before .before .before .before .before .before .before .before .before .before .before
+    .before .if1 .taken) in let a = p .0 in let b = p .1 in omega arith
 
 loop-again : tie.Need-loop-again Inv-loop μ-loop
-loop-again c = ((page-next _ _ _ _ _ (c .before .before .before .before .before .before .before .before .before .before .before .before .before .before .before .before .before .before .before .before .before .before .pre .0) _ _ _ _ _ _ _ (c .before .before .before .before .before .before .before .before .print-page .ensures .0) (c .before .before .before .before .before .before .before .before .before .before .before .before .before .before .before .if1 .taken)) .1, c .before .before .before .before .before .before .before .before .print-page .ensures .2, c .before .before .before .before .before .before .before .before .print-page .ensures .1, (c .before .before .before .before .before .before .before .before .print-page .kept .1 .1 .1 .1 .1 .1 .1 .1 .0) ∙ (c .before .before .before .before .before .before .before .before .before .before .before .before .before .before .before .before .before .loop .inv .3), (c .before .before .before .before .before .before .before .before .print-page .kept .1 .1 .1 .1 .1 .1 .1 .1 .1 .0) ∙ (c .before .before .before .before .before .before .before .before .before .before .before .before .before .before .before .before .before .loop .inv .4), (c .before .before .before .before .before .before .before .before .print-page .kept .1 .1 .1 .1 .1 .1 .1 .1 .1 .1 .0) ∙ (c .before .before .before .before .before .before .before .before .before .before .before .before .before .before .before .before .before .loop .inv .5), (c .before .before .before .before .before .before .before .before .print-page .kept .1 .1 .1 .1 .1 .1 .1 .1 .1 .1 .1 .0) ∙ (c .before .before .before .before .before .before .before .before .before .before .before .before .before .before .before .before .before .loop .inv .6), (c .before .before .before .before .before .before .before .before .print-page .kept .1 .1 .1 .1 .1 .1 .1 .1 .1 .1 .1 .1 .0) ∙ (c .before .before .before .before .before .before .before .before .before .before .before .before .before .before .before .before .before .loop .inv .7))
+loop-again c = (
+  (page-next _ _ _ _ _ (c .before .before .before .before .before .before .before .before .before
+      .before .before .before .before .before .before .before .before .before .before .before .before .before .pre .0)
+      _ _ _ _ _ _ _ (c .before .before .before .before .before .before .before .before .print-page .ensures .0) (c
+      .before .before .before .before .before .before .before .before .before .before .before .before .before .before
+      .before .if1 .taken)) .1,
+  c .before .before .before .before .before .before .before .before .print-page .ensures
+      .2,
+  c .before .before .before .before .before .before .before .before .print-page .ensures .1,
+  (c .before .before
+      .before .before .before .before .before .before .print-page .kept .1 .1 .1 .1 .1 .1 .1 .1 .0) ∙ (c .before
+      .before .before .before .before .before .before .before .before .before .before .before .before .before .before
+      .before .before .loop .inv .3),
+  (c .before .before .before .before .before .before .before .before .print-page
+      .kept .1 .1 .1 .1 .1 .1 .1 .1 .1 .0) ∙ (c .before .before .before .before .before .before .before .before .before
+      .before .before .before .before .before .before .before .before .loop .inv .4),
+  (c .before .before .before
+      .before .before .before .before .before .print-page .kept .1 .1 .1 .1 .1 .1 .1 .1 .1 .1 .0) ∙ (c .before .before
+      .before .before .before .before .before .before .before .before .before .before .before .before .before .before
+      .before .loop .inv .5),
+  (c .before .before .before .before .before .before .before .before .print-page .kept .1
+      .1 .1 .1 .1 .1 .1 .1 .1 .1 .1 .0) ∙ (c .before .before .before .before .before .before .before .before .before
+      .before .before .before .before .before .before .before .before .loop .inv .6),
+  (c .before .before .before
+      .before .before .before .before .before .print-page .kept .1 .1 .1 .1 .1 .1 .1 .1 .1 .1 .1 .1 .0) ∙ (c .before
+      .before .before .before .before .before .before .before .before .before .before .before .before .before .before
+      .before .before .loop .inv .7),
+)
 
 returns : tie.Need-returns Inv-loop μ-loop
 returns c = search needs

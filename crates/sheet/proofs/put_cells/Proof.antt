@@ -24,13 +24,22 @@ add-cell-of : tie.Need-add-cell-of Inv-loop μ-loop
 add-cell-of c = search needs
 
 mul-cell-of : tie.Need-mul-cell-of Inv-loop μ-loop
-mul-cell-of c = record { fits = (let i = c .before .before .before .pre .2 .cell _ (c .loop-test .taken) in let g = c .before .before .before .good .0 .0 in omega arith) }
+mul-cell-of c = record {
+  fits = (let i = c .before .before .before .pre .2 .cell _ (c .loop-test .taken) in let g = c
+      .before .before .before .good .0 .0 in omega arith);
+}
 
 add-cell-of-2 : tie.Need-add-cell-of-2 Inv-loop μ-loop
-add-cell-of-2 c = record { fits = (let i = c .before .before .before .pre .2 .cell _ (c .loop-test .taken) in let g = c .before .before .before .good .0 .0 in omega arith) }
+add-cell-of-2 c = record {
+  fits = (let i = c .before .before .before .pre .2 .cell _ (c .loop-test .taken) in let g =
+      c .before .before .before .good .0 .0 in omega arith);
+}
 
 add-cell-of-3 : tie.Need-add-cell-of-3 Inv-loop μ-loop
-add-cell-of-3 c = record { fits = (let i = c .before .before .before .pre .2 .cell _ (c .loop-test .taken) in let g = c .before .before .before .good .0 .0 in omega arith) }
+add-cell-of-3 c = record {
+  fits = (let i = c .before .before .before .pre .2 .cell _ (c .loop-test .taken) in let g =
+      c .before .before .before .good .0 .0 in omega arith);
+}
 
 shared-slice-read-cell-of : tie.Need-shared-slice-read-cell-of Inv-loop μ-loop
 shared-slice-read-cell-of c = c .before .before .before .before .pre .2 .cell _ (c .before .loop-test .taken)
@@ -42,7 +51,8 @@ mul-cells : tie.Need-mul-cells Inv-loop μ-loop
 mul-cells c = search needs
 
 element-write-cells : tie.Need-element-write-cells Inv-loop μ-loop
-element-write-cells c = (let l = c .before .before .loop-test .taken in let few = c .before .before .before .before .before .pre .0 in omega arith)
+element-write-cells c = (let l = c .before .before .loop-test .taken in let few = c .before .before .before .before
+    .before .pre .0 in omega arith)
 
 add-r : tie.Need-add-r Inv-loop μ-loop
 add-r c = search needs
@@ -51,7 +61,12 @@ loop-less : tie.Need-loop-less Inv-loop μ-loop
 loop-less c = search needs
 
 loop-again : tie.Need-loop-again Inv-loop μ-loop
-loop-again c = (let l = c .before .before .loop-test .taken in omega arith, filled-more _ _ _ _ _ _ _ (let l = c .before .before .loop-test .taken in let few = c .before .before .before .before .before .pre .0 in omega arith) (c .cell-of .ensures) (c .before .before .before .loop .inv .1))
+loop-again c = (
+  let l = c .before .before .loop-test .taken in omega arith,
+  filled-more _ _ _ _ _ _ _ (let l = c
+      .before .before .loop-test .taken in let few = c .before .before .before .before .before .pre .0 in omega arith)
+      (c .cell-of .ensures) (c .before .before .before .loop .inv .1),
+)
 
 returns : tie.Need-returns Inv-loop μ-loop
 returns c = filled-few _ _ _ _ _ _ _ (c .loop-test .left) (c .before .loop .inv .1)
