@@ -30,8 +30,10 @@
 //! # Ok::<(), fernijster::Refusal>(())
 //! ```
 //!
-//! The sheet entry, `column`, is on text: a sheet's bytes and a column number go in, that column's line of the report
-//! comes out. It is here when its library was there to be linked.
+//! The sheet entry, [`column`], is on text: a sheet's bytes and a column number go in, that column's line of the report
+//! comes out.
+//!
+//! A call is lent no more of an output than it may write; what stands beyond is out of its reach.
 
 mod raw;
 mod refusal;
@@ -41,10 +43,8 @@ mod refusal;
 #[doc = include_str!("../../docs/CUTTING.md")]
 mod cutting {}
 
-#[cfg(exchange)]
-use refusal::read_column;
 pub use refusal::Refusal;
-use refusal::{read, read_bare};
+use refusal::{read, read_bare, read_column};
 
 /// An entry of a row that no labelling reaches.
 pub const BARRED: u32 = u32::MAX;
@@ -73,6 +73,34 @@ pub struct Table<'a> {
 pub enum Start {
     Free,
     Given(u64),
+}
+
+impl Table<'_> {
+    /// The number of nodes.
+    fn nodes(&self) -> usize {
+        self.left.len()
+    }
+
+    /// The number of columns; one that no list can have stands for all beyond it.
+    fn columns(&self) -> usize {
+        usize::try_from(self.columns).unwrap_or(usize::MAX)
+    }
+
+    /// The number of states; one that no list can have stands for all beyond it.
+    fn states(&self) -> usize {
+        usize::try_from(self.states).unwrap_or(usize::MAX)
+    }
+
+    /// The number of entries that the row room takes: s for each node.
+    fn entries(&self) -> usize {
+        self.nodes().saturating_mul(self.states())
+    }
+}
+
+/// The first `most` of a list, or all of a shorter one: what a call that writes no more is lent.
+fn front<T>(list: &mut [T], most: usize) -> &mut [T] {
+    let length = list.len().min(most);
+    &mut list[..length]
 }
 
 impl Start {
@@ -118,6 +146,8 @@ macro_rules! call {
 /// The row room `rows` takes s entries for each node; it then holds the rows of the last column, and is untouched where
 /// there are no columns.
 pub fn score(table: &Table, scores: &mut [u32], rows: &mut [u32]) -> Result<(), Refusal> {
+    let scores = front(scores, table.columns());
+    let rows = front(rows, table.entries());
     read_bare(call!(
         fernijster_score,
         table,
@@ -134,6 +164,8 @@ pub fn score(table: &Table, scores: &mut [u32], rows: &mut [u32]) -> Result<(), 
 ///
 /// Forced to a state, the root takes that one, and only labellings with the root there compete.
 pub fn label(table: &Table, column: u64, start: Start, states: &mut [u8], rows: &mut [u32]) -> Result<(), Refusal> {
+    let states = front(states, table.nodes());
+    let rows = front(rows, table.entries());
     read_bare(call!(
         fernijster_label,
         table,
@@ -153,6 +185,8 @@ pub fn label(table: &Table, column: u64, start: Start, states: &mut [u8], rows: 
 ///
 /// Forced to a set, each of its states is a start for itself, and the node sets are joined.
 pub fn sets(table: &Table, column: u64, start: Start, sets: &mut [u16], rows: &mut [u32]) -> Result<(), Refusal> {
+    let sets = front(sets, table.nodes());
+    let rows = front(rows, table.entries());
     read_bare(call!(
         fernijster_sets,
         table,
@@ -170,6 +204,8 @@ pub fn sets(table: &Table, column: u64, start: Start, sets: &mut [u16], rows: &m
 /// Writes the row that the tree hands up in a column, its root's, to the first s of `row`, and the column's rows to the
 /// row room.
 pub fn hand_up(table: &Table, column: u64, row: &mut [u32], rows: &mut [u32]) -> Result<(), Refusal> {
+    let row = front(row, table.states());
+    let rows = front(rows, table.entries());
     read_bare(call!(
         fernijster_hand_up,
         table,
@@ -187,6 +223,7 @@ pub fn hand_up(table: &Table, column: u64, row: &mut [u32], rows: &mut [u32]) ->
 ///
 /// Only for unit costs and trees without handed tips; the table's handed entries are not looked at.
 pub fn count(table: &Table, column: u64, sets: &mut [u16]) -> Result<u64, Refusal> {
+    let sets = front(sets, table.nodes());
     read(call!(fernijster_count, table, column, sets.as_mut_ptr(), sets.len()))
 }
 
@@ -216,8 +253,8 @@ pub const LONGEST_LINE: usize = 5 + 7 + 1 + 4 + 1_023 + 4;
 /// assert_eq!(column(sheet, 0, &mut out), Err(Refusal::Symbol { line: 7 }));
 /// # Ok::<(), Refusal>(())
 /// ```
-#[cfg(exchange)]
 pub fn column(sheet: &[u8], column: u64, out: &mut [u8]) -> Result<usize, Refusal> {
+    let out = front(out, LONGEST_LINE);
     // Both lists go in with their own lengths and are borrowed until the function returns, `out` for it alone.
     read_column(unsafe { raw::fernijster_column(sheet.as_ptr(), sheet.len(), column, out.as_mut_ptr(), out.len()) })
 }

@@ -103,9 +103,6 @@ extern "C" {
         sets: *mut u16,
         sets_len: usize,
     ) -> u64;
-}
 
-#[cfg(exchange)]
-extern "C" {
     pub fn fernijster_column(sheet: *const u8, sheet_len: usize, column: u64, out: *mut u8, out_len: usize) -> u64;
 }

@@ -140,7 +140,6 @@ pub(crate) fn read_bare(word: u64) -> Result<(), Refusal> {
 /// Reads the result of the sheet entry: the number of bytes written, or the refusal.
 ///
 /// What it carries has 24 bits, and nothing stands above them. No two results are read alike here either.
-#[cfg(any(exchange, test))]
 pub(crate) fn read_column(word: u64) -> Result<usize, Refusal> {
     match (word & 0xff, word >> 8) {
         (0, written @ 0..=0xff_ffff) => Ok(written as usize),

@@ -69,12 +69,6 @@ const AMOUNTS: Amounts = Amounts {
 };
 
 fn main() -> ExitCode {
-    if ENTRIES.is_empty() {
-        println!(
-            "compare_sheets: the library is missing: make target/staticlib/libexchange.a by `rt staticlib exchange`"
-        );
-        return ExitCode::FAILURE;
-    }
     let Some(path) = env::args_os().nth(1) else {
         println!("compare_sheets: the argument is missing: the path of the program that prints reports");
         return ExitCode::FAILURE;
