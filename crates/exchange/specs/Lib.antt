@@ -1,4 +1,3 @@
 -- What the host's entry promises.
 -- Assumes nothing.
 pub mod Entry
-pub mod Held

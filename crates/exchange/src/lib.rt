@@ -1,17 +1,17 @@
 // The host's one entry: a sheet's bytes and a column number go in, that column's report line comes out.
-ghost use mathlib.Core.List.{_++_};
 ghost use mathlib.Core.Path.{_≡_};
-ghost use Prim.Native.Nat.{_+_, _*_, _≤_};
-ghost use lib.ListN.{length, take, drop};
+ghost use Prim.Native.Nat.{_≤_};
+ghost use lib.ListN.{length};
 ghost use Rattle.exchange.specs.Entry.{Entered, codeOf, faulted};
-ghost use Rattle.exchange.specs.Held.{Held, Line};
 ghost use Rattle.lines.specs.Fault.{faultLine};
+ghost use Rattle.printer.specs.SheetLine.{Ready};
 use costs::flat_costs;
 use lines::Fault;
 use printer::sheet_line;
 use sheet::Read;
 use sheet::Sheet;
 use sheet::read_sheet;
+use texts::put_text;
 
 const MOST_NAMES: usize = 512;
 
@@ -44,29 +44,29 @@ fn fault_code(fault: Fault) -> u64
     }
 }
 
-// Prints the line of column j of a sheet that has been read, and answers its length.
-fn print_line(
+// The line of column j of a sheet that has been read goes to the output, where it fits.
+fn give_line(
     sheet: &[u8],
     s: Sheet,
-    table: [[u16; 4]; 4],
+    costs: &[u16],
     left: &[u16],
     right: &[u16],
     j: usize,
-    line: &mut [u8],
-) -> usize
-    requires { ⌜ Held (now sheet) s table (now left) (now right) j ⌝ }
-    requires { ⌜ (length (now left) ≡ 1023) × (length (now right) ≡ 1023) × (1056 ≤ length (now line)) ⌝ }
-    ensures { λ r. ⌜ Line (now (sheet .entry)) j (now (line .entry)) r (now (line .exit)) ⌝ }
+    out: &mut [u8],
+) -> u64
+    requires { ⌜ Ready (now sheet) s (now costs) (now left) (now right) j ⌝ }
+    requires { ⌜ (length (now left) ≡ 1023) × (length (now right) ≡ 1023) ⌝ }
+    ensures { λ r. ⌜ Entered (now (sheet .entry)) j (now (out .entry)) r (now (out .exit)) ⌝ }
 {
-    let costs = flat_costs(table);
     let mut cells = [0u16; MOST_NAMES];
     let mut states = [0u8; MOST_NODES];
     let mut sets = [0u16; MOST_NODES];
     let mut rows = [BARRED; MOST_ENTRIES];
+    let mut line = [0u8; LINE_ROOM];
     let printed = sheet_line(
         sheet,
         s,
-        &costs,
+        costs,
         left,
         right,
         j,
@@ -74,43 +74,14 @@ fn print_line(
         &mut states,
         &mut sets,
         &mut rows,
-        line,
+        &mut line,
     );
-    printed.length
-}
-
-// Copies the first n bytes of a line to the output.
-fn copy_line(line: &[u8], n: usize, out: &mut [u8])
-    requires { ⌜ (n ≤ length (now line)) × (n ≤ length (now out)) ⌝ }
-    ensures { λ _. ⌜ now (out .exit) ≡ take n (now (line .entry)) ++ drop n (now (out .entry)) ⌝ }
-{
-    let mut i = 0;
-    while i < n {
-        out[i] = line[i];
-        i += 1;
-    }
-}
-
-// The line of column j of a sheet that has been read goes to the output, where it fits.
-fn give_line(
-    sheet: &[u8],
-    s: Sheet,
-    table: [[u16; 4]; 4],
-    left: &[u16],
-    right: &[u16],
-    j: usize,
-    out: &mut [u8],
-) -> u64
-    requires { ⌜ Held (now sheet) s table (now left) (now right) j ⌝ }
-    requires { ⌜ (length (now left) ≡ 1023) × (length (now right) ≡ 1023) ⌝ }
-    ensures { λ r. ⌜ Entered (now (sheet .entry)) j (now (out .entry)) r (now (out .exit)) ⌝ }
-{
-    let mut line = [0u8; LINE_ROOM];
-    let length = print_line(sheet, s, table, left, right, j, &mut line);
+    let length = printed.length;
     if out.len() < length {
         return ROOM;
     }
-    copy_line(&line, length, out);
+    let text = &line[..];
+    put_text(&text[0..length], out, 0);
     256 * (length as u64)
 }
 
@@ -130,7 +101,8 @@ pub extern "C" fn fernijster_column(sheet: &[u8], column: u64, out: &mut [u8]) -
             if (s.columns as u64) <= column {
                 return WHICH;
             }
-            give_line(sheet, s, table, &left, &right, column as usize, out)
+            let costs = flat_costs(table);
+            give_line(sheet, s, &costs, &left, &right, column as usize, out)
         }
     }
 }

@@ -2,3 +2,5 @@
 pub mod PrintSteps
 pub mod PageSteps
 pub mod ReadLaws
+pub mod ReportLaws
+pub mod Cases

@@ -99,7 +99,8 @@ module _ (sheet : List ℕ) (s : Sheet) (costs left right : List ℕ) (j : ℕ) 
     ready-printed I same states sets rows line size k states' sets' rows' line' reported =
         record {
           printed = λ other is. let eq : has ≡ other = sound-same (sym (ready .read .is) ∙ is) in
-              let told = subst (λ X. Reported X j states sets rows line size k states' sets' rows' line') same reported in
+              let told = subst (λ X. Reported X j states sets rows line size k states' sets' rows' line') same
+              reported in
               subst (λ h. Printed sheet h j line line' size k) eq (record { text = told .text; score = told .score });
         }
 

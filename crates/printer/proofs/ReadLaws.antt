@@ -7,17 +7,18 @@ use native.Mathlib.Omega.{arith}
 use lib.ListN.{length, getD, take, drop}
 use lib.Seq.{sets, sets-eq, length-sets, take-append-seam, ext-getD}
 use Rattle.costs.specs.CostRules.{TableRules, Flat}
+use Rattle.lines.specs.declared.Fault.{Fault}
 use Rattle.newick.specs.Nodes.{lefts, rights}
 use Rattle.newick.specs.Vine.{size}
 use Rattle.newick.proofs.PairSteps.{lefts-long, rights-long}
 use Rattle.printer.specs.Page.{ReadyFrom}
-use Rattle.printer.specs.SheetLine.{IsRead}
+use Rattle.printer.specs.SheetLine.{IsRead, Ready}
 use Rattle.sections.proofs.SheetLaws.{sheet-read}
 use Rattle.sheet.specs.Gives.{Holds, GivesFor, Gives}
-use Rattle.sheet.specs.Judge.{judge}
+use Rattle.sheet.specs.Judge.{faulty, judge}
 use Rattle.sheet.specs.Table.{flat}
 use Rattle.sheet.specs.declared.Read.{Read}
-use Rattle.sheet.specs.declared.Read.the-variants.{Sound}
+use Rattle.sheet.specs.declared.Read.the-variants.{Sound, Faulty}
 use Rattle.sheet.specs.declared.Sheet.{Sheet}
 use Rattle.sheet.proofs.SoundSheet.{sound-from}
 use Rattle.sheet.proofs.TableRules.{flat-is, sheet-legal}
@@ -88,3 +89,17 @@ module _ (sheet : List ℕ) (s : Sheet) (answer : Read) (table' : List (List ℕ
       → ReadyFrom sheet s costs left' right' 0
   read-from costs ll lr flatly =
       record { has = read-sound .contents; read = read-is costs ll lr flatly; low = omega arith }
+
+  -- and so may each of its columns
+  pub read-ready : (costs : List ℕ) (j : ℕ) → length left ≡ 1023 → length right ≡ 1023 → Flat table' costs
+      → j < s .columns → Ready sheet s costs left' right' j
+  read-ready costs j ll lr flatly low =
+      let c = read-sound .columns in
+      record { has = read-sound .contents; read = read-is costs ll lr flatly; inside = omega arith }
+
+-- the fault that the reader answers with
+pub read-fault : (sheet : List ℕ) (f : Fault) (answer : Read) (table' : List (List ℕ))
+    (left right left' right' : List ℕ)
+    → Gives (judge sheet) answer table' left right left' right' → answer ≡ Faulty f → judge sheet ≡ faulty f
+read-fault sheet f answer table' left right left' right' gives is =
+    subst (λ a. GivesFor (judge sheet) a table' left right left' right') is (gives .gives)

@@ -2,3 +2,4 @@
 -- Assumes nothing.
 pub mod SheetLine
 pub mod Page
+pub mod Report

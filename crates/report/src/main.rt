@@ -38,12 +38,11 @@ const NO_CHILD: u16 = 65535;
 
 const BARRED: u32 = 4294967295;
 
-// Writes the first bytes of a line, and the line end.
-fn write_line(line: &[u8], size: usize) {
-    if size <= line.len() {
-        io::write_all(STANDARD_OUTPUT, &line[0..size]);
-        io::write_all(STANDARD_OUTPUT, b"\n");
-    }
+// Writes the first bytes of a line.
+fn write_line(line: &[u8], size: usize)
+    requires { ⌜ size ≤ length (now line) ⌝ }
+{
+    io::write_all(STANDARD_OUTPUT, &line[0..size]);
 }
 
 // Writes the line of a refused sheet.

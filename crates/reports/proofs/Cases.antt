@@ -48,14 +48,14 @@ pub quiet-one-base : quietMark (8 ∷ 8 ∷ 8 ∷ 8 ∷ []) ≡ 1
 unfolding quietMark
 quiet-one-base = refl
 
-pub columns-2 : columnsLine 2 ≡ bytes "columns 2"
+pub columns-2 : columnsLine 2 ≡ bytes "columns 2\n"
 unfolding columnsLine bytes
 columns-2 = refl
 
-pub total-2 : totalLine 2 ≡ bytes "total 2"
+pub total-2 : totalLine 2 ≡ bytes "total 2\n"
 unfolding totalLine bytes
 total-2 = refl
 
-pub refused-10-7 : refusedLine 10 7 ≡ bytes "refused 10 7"
+pub refused-10-7 : refusedLine 10 7 ≡ bytes "refused 10 7\n"
 unfolding refusedLine bytes
 refused-10-7 = refl

@@ -15,7 +15,7 @@ use Rattle.parsimony.proofs.StateCountLaws.{size-ones}
 use Rattle.parsimony.proofs.Sums.{sum-zero, sum-suc, sum-same}
 use Rattle.texts.specs.Decimal.{decimal}
 use Rattle.texts.proofs.DecimalLaws.{decimal-length}
-use Rattle.reports.specs.Frame.{wordLine}
+use Rattle.reports.specs.Frame.{wordLine, numberLine}
 use Rattle.reports.specs.Letters.{letterOf, letters}
 use Rattle.reports.specs.Line.{field, lineText}
 use Rattle.reports.specs.OneState.{single, oneStates}
@@ -134,13 +134,23 @@ pub word-room : (word : List ℕ) (n room : ℕ) → Fits w64 n → length word 
 word-room word n room fits enough =
     let long = word-length word n in let digits = number-length fits in omega arith
 
--- and for a space and a number after them
-pub refused-room : (word : List ℕ) (n m room : ℕ) → Fits w64 n → Fits w64 m → length word + 41 ≤ room
-    → length (wordLine word n ++ (32 ∷ []) ++ decimal m) ≤ room
+-- and for a line end after them
+pub number-room : (word : List ℕ) (n room : ℕ) → Fits w64 n → length word + 21 ≤ room → length (numberLine word n) ≤ room
+unfolding numberLine
+number-room word n room fits enough =
+    let long = word-length word n in
+    let digits = number-length fits in
+    let all = length-append (wordLine word n) (10 ∷ []) in
+    omega arith
+
+-- or a space, a number and a line end
+pub refused-room : (word : List ℕ) (n m room : ℕ) → Fits w64 n → Fits w64 m → length word + 42 ≤ room
+    → length (wordLine word n ++ (32 ∷ []) ++ decimal m ++ (10 ∷ [])) ≤ room
 refused-room word n m room fits fitsToo enough =
     let long = word-length word n in
     let digits = number-length fits in
     let digitsToo = number-length fitsToo in
     let space = length-append (wordLine word n) (32 ∷ []) in
-    let all = length-append (wordLine word n ++ (32 ∷ [])) (decimal m) in
+    let place = length-append (wordLine word n ++ (32 ∷ [])) (decimal m) in
+    let all = length-append (wordLine word n ++ (32 ∷ []) ++ decimal m) (10 ∷ []) in
     omega arith

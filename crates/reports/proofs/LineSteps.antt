@@ -4,7 +4,7 @@ use mathlib.Core.List.{List, [], _∷_, _++_}
 use mathlib.Core.Path.{_≡_, refl, ap, sym, _∙_, subst}
 use Prim.Native.Nat.{ℕ, _+_, _≤_, _<_}
 use native.Mathlib.Omega.{arith}
-use lib.ListN.{length, set}
+use lib.ListN.{length, length-append, set, drop}
 use Rattle.texts.specs.Decimal.{decimal}
 use Rattle.texts.specs.Put.{Put}
 use Rattle.texts.proofs.PutLaws.{put-then, put-one, put-whole}
@@ -67,6 +67,13 @@ put-word-number n f g = put-then f g
 pub starts : {text before after : List ℕ} {size : ℕ} → Put text 0 before after size → length text ≤ length before
     → Starts text before after size
 starts put room = record { bytes = put-whole put room; long = let end = put .end in omega arith }
+
+-- and stands within it
+pub starts-inside : {text before after : List ℕ} {size : ℕ} → Starts text before after size → size ≤ length after
+starts-inside {text} {before} {after} {size} is =
+    let long = ap length (is .bytes) ∙ length-append text (drop (length text) before) in
+    let same = is .long in
+    omega arith
 
 -- of the first v of n sets so many have one of s states
 pub record Counted (s : ℕ) (S : ℕ → ℕ) (n count v : ℕ) : Type 0 where

@@ -1,7 +1,7 @@
-// The report's other lines: the number of columns, the total, and the line of a refused sheet.
-ghost use Prim.Native.Nat.{_≤_};
+// The report's other lines, each with its line end: the number of columns, the total, and the line of a refused sheet.
+ghost use Prim.Native.Nat.{_+_, _≤_};
 ghost use lib.ListN.{length};
-ghost use Rattle.reports.specs.Frame.{wordLine, columnsLine, totalLine, refusedLine};
+ghost use Rattle.reports.specs.Frame.{wordLine, numberLine, columnsLine, totalLine, refusedLine};
 ghost use Rattle.reports.specs.Reports.{Starts};
 ghost use Rattle.texts.specs.Put.{Put};
 use texts::put_byte;
@@ -9,6 +9,8 @@ use texts::put_number;
 use texts::put_text;
 
 const SPACE: u8 = 32;
+
+const LINE_END: u8 = 10;
 
 // Puts a word and a number at the start of the line, and answers the place after them.
 fn put_word(word: &[u8], n: usize, line: &mut [u8]) -> usize
@@ -19,12 +21,21 @@ fn put_word(word: &[u8], n: usize, line: &mut [u8]) -> usize
     put_number(n, line, next)
 }
 
+// Writes the line of a word and a number, and answers its length.
+fn number_line(word: &[u8], n: usize, line: &mut [u8]) -> usize
+    requires { ⌜ length (now word) + 21 ≤ length (now line) ⌝ }
+    ensures { λ r. ⌜ Starts (numberLine (now (word .entry)) n) (now (line .entry)) (now (line .exit)) r ⌝ }
+{
+    let end = put_word(word, n, line);
+    put_byte(LINE_END, line, end)
+}
+
 // Writes the line with the number of columns, and answers its length.
 pub fn columns_line(c: usize, line: &mut [u8]) -> usize
     requires { ⌜ 64 ≤ length (now line) ⌝ }
     ensures { λ r. ⌜ Starts (columnsLine c) (now (line .entry)) (now (line .exit)) r ⌝ }
 {
-    put_word(b"columns ", c, line)
+    number_line(b"columns ", c, line)
 }
 
 // Writes the line with the total, and answers its length.
@@ -32,7 +43,7 @@ pub fn total_line(total: usize, line: &mut [u8]) -> usize
     requires { ⌜ 64 ≤ length (now line) ⌝ }
     ensures { λ r. ⌜ Starts (totalLine total) (now (line .entry)) (now (line .exit)) r ⌝ }
 {
-    put_word(b"total ", total, line)
+    number_line(b"total ", total, line)
 }
 
 // Writes the line of a refused sheet, with the refusal's number and the sheet's line, and answers its length.
@@ -42,5 +53,6 @@ pub fn refused_line(number: usize, place: usize, line: &mut [u8]) -> usize
 {
     let space_at = put_word(b"refused ", number, line);
     let place_at = put_byte(SPACE, line, space_at);
-    put_number(place, line, place_at)
+    let end = put_number(place, line, place_at);
+    put_byte(LINE_END, line, end)
 }

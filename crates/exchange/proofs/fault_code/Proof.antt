@@ -12,46 +12,52 @@ enum-known-fault : tie.Need-enum-known-fault
 enum-known-fault c = search needs
 
 mul-result : tie.Need-mul-result
-mul-result c = record {
-  fits = let e = ap faultLine (c .before .fault .given .1) in let p = (c .before .before
-      .before .pre) in omega arith;
-}
+mul-result c =
+    record {
+      fits = let e = ap faultLine (c .before .fault .given .1) in let p = (c .before .before .before .pre) in
+          omega arith;
+    }
 
 add-result : tie.Need-add-result
-add-result c = record {
-  fits = let e = ap faultLine (c .before .fault .given .1) in let p = (c .before .before
-      .before .pre) in omega arith;
-}
+add-result c =
+    record {
+      fits = let e = ap faultLine (c .before .fault .given .1) in let p = (c .before .before .before .pre) in
+          omega arith;
+    }
 
 enum-known-fault-2 : tie.Need-enum-known-fault-2
 enum-known-fault-2 c = search needs
 
 mul-result-2 : tie.Need-mul-result-2
-mul-result-2 c = record {
-  fits = let e = ap faultLine (c .before .fault2 .given .1) in let p = (c .before .before
-      .before .pre) in omega arith;
-}
+mul-result-2 c =
+    record {
+      fits = let e = ap faultLine (c .before .fault2 .given .1) in let p = (c .before .before .before .pre) in
+          omega arith;
+    }
 
 add-result-2 : tie.Need-add-result-2
-add-result-2 c = record {
-  fits = let e = ap faultLine (c .before .fault2 .given .1) in let p = (c .before .before
-      .before .pre) in omega arith;
-}
+add-result-2 c =
+    record {
+      fits = let e = ap faultLine (c .before .fault2 .given .1) in let p = (c .before .before .before .pre) in
+          omega arith;
+    }
 
 enum-known-fault-3 : tie.Need-enum-known-fault-3
 enum-known-fault-3 c = search needs
 
 mul-result-3 : tie.Need-mul-result-3
-mul-result-3 c = record {
-  fits = let e = ap faultLine (c .before .fault3 .given .1) in let p = (c .before .before
-      .before .pre) in omega arith;
-}
+mul-result-3 c =
+    record {
+      fits = let e = ap faultLine (c .before .fault3 .given .1) in let p = (c .before .before .before .pre) in
+          omega arith;
+    }
 
 add-result-3 : tie.Need-add-result-3
-add-result-3 c = record {
-  fits = let e = ap faultLine (c .before .fault3 .given .1) in let p = (c .before .before
-      .before .pre) in omega arith;
-}
+add-result-3 c =
+    record {
+      fits = let e = ap faultLine (c .before .fault3 .given .1) in let p = (c .before .before .before .pre) in
+          omega arith;
+    }
 
 returns : tie.Need-returns
 unfolding codeOf

@@ -1,72 +1,105 @@
--- `exchange::give_line` meets its contract.
+-- `give_line` meets its contract: the line is printed, and put where it fits.
 -- Assumes nothing.
-use Rattle.exchange.proofs.EntrySteps.{line-fits, give-room, give-done}
-use mathlib.Core.Path.{sym}
+use Rattle.printer.proofs.PageSteps.{printed-inside}
+use Rattle.exchange.proofs.EntrySteps.{give-room, give-done}
+use mathlib.Core.Path.{refl}
 use native.Mathlib.Omega.{arith}
 use borrow.Author.Needs.{needs}
 use Rattle.exchange.proofs.give_line.Statement.{statement}
 use Rattle.exchange.proofs.give_line.Tie as tie
 
-slice-aggregate-print-line : tie.Need-slice-aggregate-print-line
-slice-aggregate-print-line c = search needs
+slice-aggregate-sheet-line : tie.Need-slice-aggregate-sheet-line
+slice-aggregate-sheet-line c = search needs
 
-print-line-requires : tie.Need-print-line-requires
-print-line-requires c κs = (
-  c .before .before .before .before .before .pre .0,
-  (
-    c .before .before .before .before
-        .before .pre .1 .0,
-    c .before .before .before .before .before .pre .1 .1,
-    omega arith,
-  ),
-)
+slice-aggregate-sheet-line-2 : tie.Need-slice-aggregate-sheet-line-2
+slice-aggregate-sheet-line-2 c = search needs
+
+slice-aggregate-sheet-line-3 : tie.Need-slice-aggregate-sheet-line-3
+slice-aggregate-sheet-line-3 c = search needs
+
+slice-aggregate-sheet-line-4 : tie.Need-slice-aggregate-sheet-line-4
+slice-aggregate-sheet-line-4 c = search needs
+
+sheet-line-requires : tie.Need-sheet-line-requires
+sheet-line-requires c κs =
+    let start = c .before .before .before .before .before .before .before .before .before .before in (
+      start .pre .0,
+      record {
+        leftLong = start .pre .1 .0;
+        rightLong = start .pre .1 .1;
+        cellsLong = refl;
+        statesRoom
+            = omega arith;
+        setsRoom = omega arith;
+        rowsRoom = omega arith;
+        lineRoom = omega arith;
+      },
+    )
 
 returns : tie.Need-returns
-returns c = give-room _ _ _ _ _ _ (c .before .before .before .before .before .before .before .before .pre .0) _ (c
-    .before .before .print-line .last .1 .1 .1 .1 .1 .1 .0) _ (c .before .before .print-line .ensures) _ (c .if1 .taken)
+returns c =
+    let c1 = c .before .before .before .before .before in
+    let start = c1 .before .before .before .before .before .before .before .before .before .before .before in
+    let after = c1 .sheet-line .last .1 .1 .1 .1 .1 .1 .1 .1 .1 .1 .0 in
+    give-room _ _ _ _ _ _ (start .pre .0) _ after _ _ (c1 .sheet-line .ensures .0) _ (c .if1 .taken)
 
-slice-aggregate-copy-line : tie.Need-slice-aggregate-copy-line
-slice-aggregate-copy-line c = search needs
+slice-aggregate-text : tie.Need-slice-aggregate-text
+slice-aggregate-text c = search needs
 
-copy-line-requires : tie.Need-copy-line-requires
-copy-line-requires c κs = (
-  line-fits _ _ _ _ _ _ (c .before .before .before .before .before .before .before .before
-      .before .before .pre .0) _ (c .before .before .before .before .print-line .last .1 .1 .1 .1 .1 .1 .0) _ (c
-      .before .before .before .before .print-line .ensures) (c .before .before .before .before .before .before .before
-      .before .before .before .args .out .now) (sym (c .before .before .before .before .print-line .kept .1 .1 .1 .1 .1
-      .1 .0)),
-  c .before .before .if1 .left,
-)
+sub-put-text : tie.Need-sub-put-text
+sub-put-text c = search needs
+
+part-put-text-start : tie.Need-part-put-text-start
+part-put-text-start c = search needs
+
+part-put-text-end : tie.Need-part-put-text-end
+part-put-text-end c =
+    let c1 = c .before .before .before .before .before .before in
+    let start = c1 .before .before .before .before .before .before .before .before .before .before .before in
+    let after = c1 .sheet-line .last .1 .1 .1 .1 .1 .1 .1 .1 .1 .1 .0 in
+    let same = c1 .sheet-line .kept .1 .1 .1 .1 .1 .1 .1 .1 .1 .1 .0 in
+    printed-inside _ _ _ _ _ _ (start .pre .0) _ after _ _ (c1 .sheet-line .ensures .0) same
+
+put-text-requires : tie.Need-put-text-requires
+put-text-requires c κs = search needs
 
 mul-result : tie.Need-mul-result
-mul-result c = record {
-  fits = let f = line-fits _ _ _ _ _ _ (c .before .before .before .before .before .before
-      .before .before .before .before .before .before .before .pre .0) _ (c .before .before .before .before .before
-      .before .before .print-line .last .1 .1 .1 .1 .1 .1 .0) _ (c .before .before .before .before .before .before
-      .before .print-line .ensures) (c .before .before .before .before .before .before .before .before .before .before
-      .before .before .before .args .out .now) (sym (c .before .before .before .before .before .before .before
-      .print-line .kept .1 .1 .1 .1 .1 .1 .0)) in let k = c .before .before .before .before .before .before .before
-      .print-line .kept .1 .1 .1 .1 .1 .1 .0 in omega arith;
-}
+mul-result c =
+    let c1 = c .before .before .before .before .before .before .before .before .before .before .before in
+    let start = c1 .before .before .before .before .before .before .before .before .before .before .before in
+    let after = c1 .sheet-line .last .1 .1 .1 .1 .1 .1 .1 .1 .1 .1 .0 in
+    let same2 = c1 .sheet-line .kept .1 .1 .1 .1 .1 .1 .1 .1 .1 .1 .0 in
+    let inside = printed-inside _ _ _ _ _ _ (start .pre .0) _ after _ _ (c1 .sheet-line .ensures .0) same2 in
+    let same = same2 in
+    record { fits = omega arith }
 
 same-length : tie.Need-same-length
 same-length c = search needs
 
 returns-2 : tie.Need-returns-2
-returns-2 c = give-done _ _ _ _ _ _ (c .before .before .before .before .before .before .before .before .before
-    .before .before .before .before .pre .0) _ (c .before .before .before .before .before .before .before .print-line
-    .last .1 .1 .1 .1 .1 .1 .0) _ (c .before .before .before .before .before .before .before .print-line .ensures) _
-    _ (c .before .before .before .before .before .if1 .left) (c .before .before .copy-line .ensures)
+returns-2 c =
+    let c1 = c .before .before .before .before .before .before in
+    let c2 = c1 .before .before .before .before .before in
+    let start = c2 .before .before .before .before .before .before .before .before .before .before .before in
+    let after = c2 .sheet-line .last .1 .1 .1 .1 .1 .1 .1 .1 .1 .1 .0 in
+    give-done _ _ _ _ _ _ (start .pre .0) _ after _ _ (c2 .sheet-line .ensures .0) _ _ _ (c1 .if1 .left)
+    (c .before .before .put-text .ensures)
 
 pub give-line-spec : {M : Type 1} → statement M
 give-line-spec =
     tie.close
     (tie.spec
-    slice-aggregate-print-line
-    print-line-requires
+    slice-aggregate-sheet-line
+    slice-aggregate-sheet-line-2
+    slice-aggregate-sheet-line-3
+    slice-aggregate-sheet-line-4
+    sheet-line-requires
     returns
-    slice-aggregate-copy-line
-    copy-line-requires
+    slice-aggregate-text
+    sub-put-text
+    part-put-text-start
+    part-put-text-end
+    put-text-requires
     mul-result
     same-length
     returns-2)

@@ -22,30 +22,31 @@ abbrev μ-loop : tie.MeasureT-loop
     rows line page next size all = s .columns - next
 
 loop-holds : tie.Need-loop-holds Inv-loop μ-loop
-loop-holds c = (
-  turn-none _ _ _ _ _ _ _ _ _ _ _ _ _ (c .before .before .before .before .before .before .before
-      .before .before .pre .0) (c .before .before .before .before .before .before .before .before .before .pre .1 .0)
-      (c .before .before .before .before .before .before .before .before .before .pre .1 .1 .0) (c .before .before
-      .before .before .before .before .before .before .before .pre .1 .1 .2),
-  refl,
-  refl,
-  refl,
-  refl,
-)
+loop-holds c =
+    let start = c .before .before .before .before .before .before .before .before .before in (
+      turn-none _ _ _ _ _ _ _ _ _ _ _ _ _ (start .pre .0) (start .pre .1 .0) (start .pre .1 .1 .0)
+          (start .pre .1 .1 .2),
+      refl,
+      refl,
+      refl,
+      refl,
+    )
 
 add-if2 : tie.Need-add-if2 Inv-loop μ-loop
-add-if2 c = record {
-  fits = let f = (c .before .before .loop .inv .0) .fits in let q = (c .before .before .loop .inv
-      .0) .same in let g = c .before .before .before .before .before .before .before .before .before .before .before
-      .before .good in omega arith;
-}
+add-if2 c =
+    let holds = c .before .before .loop .inv .0 in
+    let f = holds .fits in
+    let q = holds .same in
+    let g = c .before .before .before .before .before .before .before .before .before .before .before .before .good in
+    record { fits = omega arith }
 
 add-if2-2 : tie.Need-add-if2-2 Inv-loop μ-loop
-add-if2-2 c = record {
-  fits = let f = (c .before .before .loop .inv .0) .fits in let q = (c .before .before .loop
-      .inv .0) .same in let g = c .before .before .before .before .before .before .before .before .before .before
-      .before .before .good in omega arith;
-}
+add-if2-2 c =
+    let holds = c .before .before .loop .inv .0 in
+    let f = holds .fits in
+    let q = holds .same in
+    let g = c .before .before .before .before .before .before .before .before .before .before .before .before .good in
+    record { fits = omega arith }
 
 same-length : tie.Need-same-length Inv-loop μ-loop
 same-length c = search needs
@@ -63,50 +64,43 @@ same-length-5 : tie.Need-same-length-5 Inv-loop μ-loop
 same-length-5 c = search needs
 
 returns : tie.Need-returns Inv-loop μ-loop
-returns c = (
-  turn-full _ _ _ _ _ _ _ _ _ _ _ _ _ _ _ _ _ (c .before .before .before .before .before .before .before
-      .before .before .before .before .before .before .pre .0) (c .before .before .before .loop .inv .0) (c .before
-      .before .before .before .before .before .before .before .before .before .before .before .before .pre .1 .1 .1) (c
-      .if2 .taken),
-  (c .before .before .before .loop .inv .0) .room .cellsLong,
-  (c .before .before .before .loop .inv
-      .0) .few,
-  (c .before .before .before .loop .inv .0) .fits,
-)
+returns c =
+    let c1 = c .before .before .before in
+    let start = c1 .before .before .before .before .before .before .before .before .before .before in
+    let holds = c1 .loop .inv .0 in (
+      turn-full _ _ _ _ _ _ _ _ _ _ _ _ _ _ _ _ _ (start .pre .0) holds (start .pre .1 .1 .1) (c .if2 .taken),
+      (c1 .loop .inv .0) .room .cellsLong,
+      (c1 .loop .inv .0) .few,
+      (c1 .loop .inv .0) .fits,
+    )
 
 put-line-requires : tie.Need-put-line-requires Inv-loop μ-loop
-put-line-requires c κs = (
-  turn-ready _ _ _ _ _ _ _ _ _ _ _ _ _ _ _ _ _ (c .before .before .before .before .before
-      .before .before .before .before .before .before .before .before .before .before .before .before .before .before
-      .pre .0) (c .before .before .before .before .before .before .before .before .before .loop .inv .0) (c .before
-      .before .before .before .before .before .before .if1 .taken),
-  (
-    (c .before .before .before .before .before .before
-        .before .before .before .loop .inv .0) .room,
-    (
-      (c .before .before .before .before .before .before .before .before
-          .before .loop .inv .0) .long,
-      let f = c .before .before .before .before .before .before .if2 .left in omega arith,
-    ),
-  ),
-)
+put-line-requires c κs =
+    let c1 = c .before .before .before .before .before .before in
+    let c2 = c1 .before in
+    let c3 = c2 .before .before in
+    let start = c3 .before .before .before .before .before .before .before .before .before .before in
+    let holds = c3 .loop .inv .0 in (
+      turn-ready _ _ _ _ _ _ _ _ _ _ _ _ _ _ _ _ _ (start .pre .0) holds (c2 .if1 .taken),
+      ((c3 .loop .inv .0) .room, ((c3 .loop .inv .0) .long, let f = c1 .if2 .left in omega arith)),
+    )
 
 wide-requires : tie.Need-wide-requires Inv-loop μ-loop
 wide-requires c κs = search needs
 
 add-all : tie.Need-add-all Inv-loop μ-loop
-add-all c = record {
-  fits = let few = (c .before .before .before .before .before .before .before .before .before
-      .before .before .before .before .before .before .before .before .before .before .before .before .loop .inv .0)
-      .few in let j = ready-nodes _ _ _ _ _ _ (turn-ready _ _ _ _ _ _ _ _ _ _ _ _ _ _ _ _ _ (c .before .before .before
-      .before .before .before .before .before .before .before .before .before .before .before .before .before .before
-      .before .before .before .before .before .before .before .before .before .before .before .before .before .before
-      .pre .0) (c .before .before .before .before .before .before .before .before .before .before .before .before
-      .before .before .before .before .before .before .before .before .before .loop .inv .0) (c .before .before .before
-      .before .before .before .before .before .before .before .before .before .before .before .before .before .before
-      .before .before .if1 .taken)) .1 in let w = c .before .before .before .before .before .before .before .before
-      .before .before .before .put-line .ok in let e = c .wide .ensures in omega arith;
-}
+add-all c =
+    let c1 = c .before .before .before .before .before .before .before .before .before .before .before in
+    let c2 = c1 .before .before .before .before .before .before .before .before in
+    let c3 = c2 .before .before in
+    let start = c3 .before .before .before .before .before .before .before .before .before .before in
+    let holds = c3 .loop .inv .0 in
+    record {
+      fits = let few = (c3 .loop .inv .0) .few in
+          let j = ready-nodes _ _ _ _ _ _
+          (turn-ready _ _ _ _ _ _ _ _ _ _ _ _ _ _ _ _ _ (start .pre .0) holds (c2 .if1 .taken)) .1 in
+          let w = c1 .put-line .ok in let e = c .wide .ensures in omega arith;
+    }
 
 add-next : tie.Need-add-next Inv-loop μ-loop
 add-next c = search needs
@@ -115,45 +109,27 @@ loop-less : tie.Need-loop-less Inv-loop μ-loop
 loop-less c = search needs
 
 loop-again : tie.Need-loop-again Inv-loop μ-loop
-loop-again c = (
-  turn-more _ _ _ _ _ _ _ _ _ _ _ _ _ _ _ _ _ (c .before .before .before .before .before .before
-      .before .before .before .before .before .before .before .before .before .before .before .before .before .before
-      .before .before .before .before .before .before .before .before .before .before .before .pre .0) (c .before
-      .before .before .before .before .before .before .before .before .before .before .before .before .before .before
-      .before .before .before .before .before .before .loop .inv .0) (c .before .before .before .before .before .before
-      .before .before .before .before .before .before .before .before .before .before .before .before .before .if1
-      .taken) _ _ _ _ _ _ _ _ _ (c .before .before .before .before .before .before .before .before .before .before
-      .before .put-line .ensures .0) (let w = c .before .before .before .before .before .before .before .before .before
-      .before .before .put-line .ok in omega arith) (let w = c .wide .ensures in omega arith) (room-kept _ _ _ _ _ _ _
-      _ _ _ _ _ ((c .before .before .before .before .before .before .before .before .before .before .before .before
-      .before .before .before .before .before .before .before .before .before .loop .inv .0) .room) (c .before .before
-      .before .before .before .before .before .before .before .before .before .put-line .ensures .1) (c .before .before
-      .before .before .before .before .before .before .before .before .before .put-line .kept .1 .1 .1 .1 .1 .1 .1 .0)
-      (c .before .before .before .before .before .before .before .before .before .before .before .put-line .kept .1 .1
-      .1 .1 .1 .1 .1 .1 .0) (c .before .before .before .before .before .before .before .before .before .before .before
-      .put-line .kept .1 .1 .1 .1 .1 .1 .1 .1 .1 .0) (c .before .before .before .before .before .before .before .before
-      .before .before .before .put-line .kept .1 .1 .1 .1 .1 .1 .1 .1 .1 .1 .0)) ((c .before .before .before .before
-      .before .before .before .before .before .before .before .put-line .kept .1 .1 .1 .1 .1 .1 .1 .1 .1 .1 .0) ∙ (c
-      .before .before .before .before .before .before .before .before .before .before .before .before .before .before
-      .before .before .before .before .before .before .before .loop .inv .0) .long) (c .before .before .before .before
-      .before .before .before .before .before .before .before .put-line .kept .1 .1 .1 .1 .1 .1 .1 .1 .1 .1 .1 .0) (c
-      .before .before .before .before .before .before .before .before .before .before .before .put-line .ensures .2),
-  (c .before .before .before .before .before .before .before .before .before .before .before .put-line .kept .1 .1
-      .1 .1 .1 .1 .1 .0) ∙ c .before .before .before .before .before .before .before .before .before .before .before
-      .before .before .before .before .before .before .before .before .before .before .loop .inv .1,
-  (c .before .before
-      .before .before .before .before .before .before .before .before .before .put-line .kept .1 .1 .1 .1 .1 .1 .1 .1
-      .0) ∙ c .before .before .before .before .before .before .before .before .before .before .before .before .before
-      .before .before .before .before .before .before .before .before .loop .inv .2,
-  (c .before .before .before .before
-      .before .before .before .before .before .before .before .put-line .kept .1 .1 .1 .1 .1 .1 .1 .1 .1 .0) ∙ c
-      .before .before .before .before .before .before .before .before .before .before .before .before .before .before
-      .before .before .before .before .before .before .before .loop .inv .3,
-  (c .before .before .before .before .before
-      .before .before .before .before .before .before .put-line .kept .1 .1 .1 .1 .1 .1 .1 .1 .1 .1 .0) ∙ c .before
-      .before .before .before .before .before .before .before .before .before .before .before .before .before .before
-      .before .before .before .before .before .before .loop .inv .4,
-)
+loop-again c =
+    let c1 = c .before .before .before .before .before .before .before .before .before .before .before in
+    let c2 = c1 .before .before .before .before .before .before .before .before in
+    let c3 = c2 .before .before in
+    let start = c3 .before .before .before .before .before .before .before .before .before .before in
+    let same = c1 .put-line .kept .1 .1 .1 .1 .1 .1 .1 .1 .1 .1 .1 .0 in
+    let same2 = c1 .put-line .kept .1 .1 .1 .1 .1 .1 .1 .1 .1 .1 .0 in
+    let same3 = c1 .put-line .kept .1 .1 .1 .1 .1 .1 .1 .1 .1 .0 in
+    let same4 = c1 .put-line .kept .1 .1 .1 .1 .1 .1 .1 .1 .0 in
+    let same5 = c1 .put-line .kept .1 .1 .1 .1 .1 .1 .1 .0 in
+    let holds = c3 .loop .inv .0 in (
+      turn-more _ _ _ _ _ _ _ _ _ _ _ _ _ _ _ _ _ (start .pre .0) holds (c2 .if1 .taken) _ _ _ _ _ _ _ _ _
+          (c1 .put-line .ensures .0) (let w = c1 .put-line .ok in omega arith) (let w = c .wide .ensures in omega arith)
+          (room-kept _ _ _ _ _ _ _ _ _ _ _ _ (c3 .loop .inv .0 .room) (c1 .put-line .ensures .1) same5 same4 same3
+          same2) (same2 ∙ (c3 .loop .inv .0) .long) same (c1 .put-line .ensures .2),
+      same5 ∙ c3 .loop .inv .1,
+      same4
+          ∙ c3 .loop .inv .2,
+      same3 ∙ c3 .loop .inv .3,
+      same2 ∙ c3 .loop .inv .4,
+    )
 
 same-length-6 : tie.Need-same-length-6 Inv-loop μ-loop
 same-length-6 c = search needs
@@ -171,15 +147,15 @@ same-length-10 : tie.Need-same-length-10 Inv-loop μ-loop
 same-length-10 c = search needs
 
 returns-2 : tie.Need-returns-2 Inv-loop μ-loop
-returns-2 c = (
-  turn-end _ _ _ _ _ _ _ _ _ _ _ _ _ _ _ _ _ (c .before .before .before .before .before .before .before
-      .before .before .before .before .before .pre .0) (c .before .before .loop .inv .0) (c .if1 .left),
-  (c .before
-      .before .loop .inv .0) .room .cellsLong,
-  (c .before .before .loop .inv .0) .few,
-  (c .before .before .loop .inv
-      .0) .fits,
-)
+returns-2 c =
+    let c1 = c .before .before in
+    let start = c1 .before .before .before .before .before .before .before .before .before .before in
+    let holds = c1 .loop .inv .0 in (
+      turn-end _ _ _ _ _ _ _ _ _ _ _ _ _ _ _ _ _ (start .pre .0) holds (c .if1 .left),
+      (c1 .loop .inv .0) .room .cellsLong,
+      (c1 .loop .inv .0) .few,
+      (c1 .loop .inv .0) .fits,
+    )
 
 pub print-page-spec : {M : Type 1} → statement M
 print-page-spec =

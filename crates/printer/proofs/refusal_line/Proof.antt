@@ -30,28 +30,37 @@ same-length : tie.Need-same-length
 same-length c = search needs
 
 returns : tie.Need-returns
-returns c = subst (λ f. Starts (refusedLine (faultNumber f) (faultLine f)) (c .before .before .before .before .before
-    .before .before .before .args .line .now) (c .before .before .refused-line .last .1 .1 .0) (c .before .before
-    .refused-line .result)) (sym (c .before .before .before .before .before .fault .given .1)) (c .before .before
-    .refused-line .ensures)
+returns c =
+    let c1 = c .before .before in
+    let c2 = c1 .before .before .before in
+    let start = c2 .before .before .before in
+    subst (λ f. Starts (refusedLine (faultNumber f) (faultLine f)) (start .args .line .now)
+    (c1 .refused-line .last .1 .1 .0) (c1 .refused-line .result)) (sym (c2 .fault .given .1))
+    (c1 .refused-line .ensures)
 
 same-length-2 : tie.Need-same-length-2
 same-length-2 c = search needs
 
 returns-2 : tie.Need-returns-2
-returns-2 c = subst (λ f. Starts (refusedLine (faultNumber f) (faultLine f)) (c .before .before .before .before
-    .before .before .before .before .args .line .now) (c .before .before .refused-line2 .last .1 .1 .0) (c .before
-    .before .refused-line2 .result)) (sym (c .before .before .before .before .before .fault2 .given .1)) (c .before
-    .before .refused-line2 .ensures)
+returns-2 c =
+    let c1 = c .before .before in
+    let c2 = c1 .before .before .before in
+    let start = c2 .before .before .before in
+    subst (λ f. Starts (refusedLine (faultNumber f) (faultLine f)) (start .args .line .now)
+    (c1 .refused-line2 .last .1 .1 .0) (c1 .refused-line2 .result)) (sym (c2 .fault2 .given .1))
+    (c1 .refused-line2 .ensures)
 
 same-length-3 : tie.Need-same-length-3
 same-length-3 c = search needs
 
 returns-3 : tie.Need-returns-3
-returns-3 c = subst (λ f. Starts (refusedLine (faultNumber f) (faultLine f)) (c .before .before .before .before
-    .before .before .before .before .args .line .now) (c .before .before .refused-line3 .last .1 .1 .0) (c .before
-    .before .refused-line3 .result)) (sym (c .before .before .before .before .before .fault3 .given .1)) (c .before
-    .before .refused-line3 .ensures)
+returns-3 c =
+    let c1 = c .before .before in
+    let c2 = c1 .before .before .before in
+    let start = c2 .before .before .before in
+    subst (λ f. Starts (refusedLine (faultNumber f) (faultLine f)) (start .args .line .now)
+    (c1 .refused-line3 .last .1 .1 .0) (c1 .refused-line3 .result)) (sym (c2 .fault3 .given .1))
+    (c1 .refused-line3 .ensures)
 
 pub refusal-line-spec : {M : Type 1} → statement M
 refusal-line-spec =

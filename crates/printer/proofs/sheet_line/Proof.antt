@@ -20,15 +20,14 @@ use Rattle.printer.proofs.sheet_line.Statement.{statement}
 use Rattle.printer.proofs.sheet_line.Tie as tie
 
 put-cells-requires : tie.Need-put-cells-requires
-put-cells-requires c κs = (
-  ready-cells _ _ _ _ _ _ (c .before .before .before .before .before .before .before .before
-      .before .pre .0) .0,
-  ready-cells _ _ _ _ _ _ (c .before .before .before .before .before .before .before .before
-      .before .pre .0) .1,
-  ready-cells _ _ _ _ _ _ (c .before .before .before .before .before .before .before .before
-      .before .pre .0) .2,
-  c .before .before .before .before .before .before .before .before .before .pre .1 .cellsLong,
-)
+put-cells-requires c κs =
+    let start = c .before .before .before .before .before .before .before .before .before in (
+      ready-cells _ _ _ _ _ _ (start .pre .0) .0,
+      ready-cells _ _ _ _ _ _ (start .pre .0) .1,
+      ready-cells _ _ _ _ _ _
+          (start .pre .0) .2,
+      start .pre .1 .cellsLong,
+    )
 
 sub-column-line : tie.Need-sub-column-line
 sub-column-line c = search needs
@@ -37,9 +36,9 @@ part-column-line-start : tie.Need-part-column-line-start
 part-column-line-start c = search needs
 
 part-column-line-end : tie.Need-part-column-line-end
-part-column-line-end c = (let few = ready-nodes _ _ _ _ _ _ (c .before .before .before .before .before .before
-    .before .before .before .before .before .before .pre .0) .0 in let long = c .before .before .before .before
-    .before .before .before .before .before .before .before .before .pre .1 .leftLong in omega arith)
+part-column-line-end c =
+    let start = c .before .before .before .before .before .before .before .before .before .before .before .before in
+    (let few = ready-nodes _ _ _ _ _ _ (start .pre .0) .0 in let long = start .pre .1 .leftLong in omega arith)
 
 sub-column-line-2 : tie.Need-sub-column-line-2
 sub-column-line-2 c = search needs
@@ -48,9 +47,10 @@ part-column-line-start-2 : tie.Need-part-column-line-start-2
 part-column-line-start-2 c = search needs
 
 part-column-line-end-2 : tie.Need-part-column-line-end-2
-part-column-line-end-2 c = (let few = ready-nodes _ _ _ _ _ _ (c .before .before .before .before .before .before
-    .before .before .before .before .before .before .before .pre .0) .0 in let long = c .before .before .before
-    .before .before .before .before .before .before .before .before .before .before .pre .1 .rightLong in omega arith)
+part-column-line-end-2 c =
+    let c1 = c .before .before .before .before .before .before .before .before .before .before .before .before in
+    let start = c1 .before in
+    (let few = ready-nodes _ _ _ _ _ _ (start .pre .0) .0 in let long = start .pre .1 .rightLong in omega arith)
 
 sub-column-line-3 : tie.Need-sub-column-line-3
 sub-column-line-3 c = search needs
@@ -59,76 +59,45 @@ part-column-line-start-3 : tie.Need-part-column-line-start-3
 part-column-line-start-3 c = search needs
 
 part-column-line-end-3 : tie.Need-part-column-line-end-3
-part-column-line-end-3 c = (let few = ready-cells _ _ _ _ _ _ (c .before .before .before .before .before .before
-    .before .before .before .before .before .before .before .before .pre .0) .0 in let long = c .before .before
-    .before .before .put-cells .ensures .long in omega arith)
+part-column-line-end-3 c =
+    let c1 = c .before .before .before .before in
+    let start = c1 .before .before .before .before .before .before .before .before .before .before in
+    (let few = ready-cells _ _ _ _ _ _ (start .pre .0) .0 in let long = c1 .put-cells .ensures .long in omega arith)
 
 column-line-requires : tie.Need-column-line-requires
-column-line-requires c κs = (
-  subst (λ X. All (tableRules X [])) (sym (ready-table _ _ _ _ _ _ (c .before .before
-      .before .before .before .before .before .before .before .before .before .before .before .before .before .before
-      .before .before .before .pre .0) _ _ _ (part-first (c .before .before .before .before .before .before .before
-      .before .before .before .before .before .before .before .before .before .before .before .before .args .left .now)
-      (c .before .before .before .before .before .before .before .before .before .before .before .before .before
-      .before .before .before .before .before .before .args .s .nodes)) (part-first (c .before .before .before .before
-      .before .before .before .before .before .before .before .before .before .before .before .before .before .before
-      .before .args .right .now) (c .before .before .before .before .before .before .before .before .before .before
-      .before .before .before .before .before .before .before .before .before .args .s .nodes)) (part-first (c .before
-      .before .before .before .before .before .before .before .before .put-cells .last .1 .1 .1 .1 .1 .0) (c .before
-      .before .before .before .before .before .before .before .before .before .before .before .before .before .before
-      .before .before .before .before .args .s .tips) ∙ put-cells-are _ _ _ _ _ _ (c .before .before .before .before
-      .before .before .before .before .before .before .before .before .before .before .before .before .before .before
-      .before .pre .0) _ (c .before .before .before .before .before .before .before .before .before .put-cells .ensures
-      .long) (c .before .before .before .before .before .before .before .before .before .put-cells .ensures))))
-      (ready-rules _ _ _ _ _ _ (c .before .before .before .before .before .before .before .before .before .before
-      .before .before .before .before .before .before .before .before .before .pre .0)),
-  (
-    (
-      let l = part-size (c .before
-          .before .before .before .before .before .before .before .before .before .before .before .before .before .before
-          .before .before .before .before .args .left .now) (c .before .before .before .before .before .before .before
-          .before .before .before .before .before .before .before .before .before .before .before .before .args .s .nodes)
-          (let few = ready-nodes _ _ _ _ _ _ (c .before .before .before .before .before .before .before .before .before
-          .before .before .before .before .before .before .before .before .before .before .pre .0) .0 in let long = c
-          .before .before .before .before .before .before .before .before .before .before .before .before .before .before
-          .before .before .before .before .before .pre .1 .leftLong in omega arith) in let few = ready-nodes _ _ _ _ _ _ (c
-          .before .before .before .before .before .before .before .before .before .before .before .before .before .before
-          .before .before .before .before .before .pre .0) .0 in let a = c .before .before .before .before .before .before
-          .before .before .before .before .before .before .before .before .before .before .before .before .before .pre .1
-          .statesRoom in omega arith,
-      let l = part-size (c .before .before .before .before .before .before .before .before
-          .before .before .before .before .before .before .before .before .before .before .before .args .left .now) (c
-          .before .before .before .before .before .before .before .before .before .before .before .before .before .before
-          .before .before .before .before .before .args .s .nodes) (let few = ready-nodes _ _ _ _ _ _ (c .before .before
-          .before .before .before .before .before .before .before .before .before .before .before .before .before .before
-          .before .before .before .pre .0) .0 in let long = c .before .before .before .before .before .before .before
-          .before .before .before .before .before .before .before .before .before .before .before .before .pre .1 .leftLong
-          in omega arith) in let few = ready-nodes _ _ _ _ _ _ (c .before .before .before .before .before .before .before
-          .before .before .before .before .before .before .before .before .before .before .before .before .pre .0) .0 in
-          let a = c .before .before .before .before .before .before .before .before .before .before .before .before .before
-          .before .before .before .before .before .before .pre .1 .setsRoom in omega arith,
-    ),
-    (
-      let l = part-size (c .before
-          .before .before .before .before .before .before .before .before .before .before .before .before .before .before
-          .before .before .before .before .args .left .now) (c .before .before .before .before .before .before .before
-          .before .before .before .before .before .before .before .before .before .before .before .before .args .s .nodes)
-          (let few = ready-nodes _ _ _ _ _ _ (c .before .before .before .before .before .before .before .before .before
-          .before .before .before .before .before .before .before .before .before .before .pre .0) .0 in let long = c
-          .before .before .before .before .before .before .before .before .before .before .before .before .before .before
-          .before .before .before .before .before .pre .1 .leftLong in omega arith) in let few = ready-nodes _ _ _ _ _ _ (c
-          .before .before .before .before .before .before .before .before .before .before .before .before .before .before
-          .before .before .before .before .before .pre .0) .0 in let a = c .before .before .before .before .before .before
-          .before .before .before .before .before .before .before .before .before .before .before .before .before .pre .1
-          .rowsRoom in omega arith,
-      ready-nodes _ _ _ _ _ _ (c .before .before .before .before .before .before .before
-          .before .before .before .before .before .before .before .before .before .before .before .before .pre .0) .1,
-      c
-          .before .before .before .before .before .before .before .before .before .before .before .before .before .before
-          .before .before .before .before .before .pre .1 .lineRoom,
-    ),
-  ),
-)
+column-line-requires c κs =
+    let c1 = c .before .before .before .before .before .before .before .before .before in
+    let start = c1 .before .before .before .before .before .before .before .before .before .before in
+    let after = c1 .put-cells .last .1 .1 .1 .1 .1 .0 in
+    let asked = start .pre .1 .leftLong in
+    let left2 = start .args .left .now in
+    let s2 = start .args .s .nodes in (
+      subst (λ X. All (tableRules X []))
+          (sym (ready-table _ _ _ _ _ _ (start .pre .0) _ _ _ (part-first left2 s2)
+          (part-first (start .args .right .now) s2)
+          (part-first after (start .args .s .tips)
+          ∙ put-cells-are _ _ _ _ _ _ (start .pre .0) _ (c1 .put-cells .ensures .long) (c1 .put-cells .ensures))))
+          (ready-rules _ _ _ _ _ _ (start .pre .0)),
+      (
+        (
+          let l = part-size left2 s2
+              (let few = ready-nodes _ _ _ _ _ _ (start .pre .0) .0 in let long = asked in omega arith) in
+              let few = ready-nodes _ _ _ _ _ _ (start .pre .0) .0 in let a = start .pre .1 .statesRoom in
+              omega arith,
+          let l = part-size left2 s2
+              (let few = ready-nodes _ _ _ _ _ _ (start .pre .0) .0 in let long = asked in omega arith) in
+              let few = ready-nodes _ _ _ _ _ _ (start .pre .0) .0 in let a = start .pre .1 .setsRoom in omega arith,
+        ),
+        (
+          let l = part-size left2 s2
+              (let few = ready-nodes _ _ _ _ _ _ (start .pre .0) .0 in let long = asked in omega arith) in
+              let few = ready-nodes _ _ _ _ _ _ (start .pre .0) .0 in let a = start .pre .1 .rowsRoom in
+              omega arith,
+          ready-nodes _ _ _ _ _ _ (start .pre .0) .1,
+          start .pre .1 .lineRoom,
+        ),
+      ),
+    )
 
 same-length : tie.Need-same-length
 same-length c = search needs
@@ -143,35 +112,21 @@ same-length-4 : tie.Need-same-length-4
 same-length-4 c = search needs
 
 returns : tie.Need-returns
-returns c = (
-  ready-printed _ _ _ _ _ _ (c .before .before .before .before .before .before .before .before .before
-      .before .before .before .before .before .before .before .before .before .before .before .before .before .before
-      .before .before .before .before .before .pre .0) _ (ready-table _ _ _ _ _ _ (c .before .before .before .before
-      .before .before .before .before .before .before .before .before .before .before .before .before .before .before
-      .before .before .before .before .before .before .before .before .before .before .pre .0) _ _ _ (part-first (c
-      .before .before .before .before .before .before .before .before .before .before .before .before .before .before
-      .before .before .before .before .before .before .before .before .before .before .before .before .before .before
-      .args .left .now) (c .before .before .before .before .before .before .before .before .before .before .before
-      .before .before .before .before .before .before .before .before .before .before .before .before .before .before
-      .before .before .before .args .s .nodes)) (part-first (c .before .before .before .before .before .before .before
-      .before .before .before .before .before .before .before .before .before .before .before .before .before .before
-      .before .before .before .before .before .before .before .args .right .now) (c .before .before .before .before
-      .before .before .before .before .before .before .before .before .before .before .before .before .before .before
-      .before .before .before .before .before .before .before .before .before .before .args .s .nodes)) (part-first (c
-      .before .before .before .before .before .before .before .before .before .before .before .before .before .before
-      .before .before .before .before .put-cells .last .1 .1 .1 .1 .1 .0) (c .before .before .before .before .before
-      .before .before .before .before .before .before .before .before .before .before .before .before .before .before
-      .before .before .before .before .before .before .before .before .before .args .s .tips) ∙ put-cells-are _ _ _ _ _
-      _ (c .before .before .before .before .before .before .before .before .before .before .before .before .before
-      .before .before .before .before .before .before .before .before .before .before .before .before .before .before
-      .before .pre .0) _ (c .before .before .before .before .before .before .before .before .before .before .before
-      .before .before .before .before .before .before .before .put-cells .ensures .long) (c .before .before .before
-      .before .before .before .before .before .before .before .before .before .before .before .before .before .before
-      .before .put-cells .ensures))) _ _ _ _ _ _ _ _ _ _ (c .before .before .before .before .before .before .before
-      .before .column-line .ensures),
-  c .before .before .before .before .before .before .before .before .before .before
-      .before .before .before .before .before .before .before .before .put-cells .ensures .long,
-)
+returns c =
+    let c1 = c .before .before .before .before .before .before .before .before in
+    let c2 = c1 .before .before .before .before .before .before .before .before .before .before in
+    let start = c2 .before .before .before .before .before .before .before .before .before .before in
+    let after = c2 .put-cells .last .1 .1 .1 .1 .1 .0 in
+    let told = c2 .put-cells .ensures .long in
+    let s2 = start .args .s .nodes in (
+      ready-printed _ _ _ _ _ _ (start .pre .0) _
+          (ready-table _ _ _ _ _ _ (start .pre .0) _ _ _ (part-first (start .args .left .now) s2)
+          (part-first (start .args .right .now) s2)
+          (part-first after (start .args .s .tips)
+          ∙ put-cells-are _ _ _ _ _ _ (start .pre .0) _ told (c2 .put-cells .ensures))) _ _ _ _ _ _ _ _ _ _
+          (c1 .column-line .ensures),
+      told,
+    )
 
 pub sheet-line-spec : {M : Type 1} → statement M
 sheet-line-spec =

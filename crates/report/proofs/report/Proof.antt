@@ -1,4 +1,4 @@
--- `report::report` meets its contract.
+-- `report` meets its contract: what the reader leaves may be printed.
 -- Assumes nothing.
 use Rattle.printer.proofs.ReadLaws.{read-long, read-from}
 use mathlib.Core.Path.{refl, sym}
@@ -28,25 +28,30 @@ slice-aggregate-write-report : tie.Need-slice-aggregate-write-report
 slice-aggregate-write-report c = search needs
 
 slice-aggregate-write-report-2 : tie.Need-slice-aggregate-write-report-2
-slice-aggregate-write-report-2 c = sym (read-long _ _ _ _ _ _ _ _ (c .before .before .before .before .before .before
-    .before .read-sheet .ensures) (c .before .before .before .before .s .given .1) .0)
+slice-aggregate-write-report-2 c =
+    let c1 = c .before .before .before .before in
+    let c2 = c1 .before .before .before in
+    sym (read-long _ _ _ _ _ _ _ _ (c2 .read-sheet .ensures) (c1 .s .given .1) .0)
 
 slice-aggregate-write-report-3 : tie.Need-slice-aggregate-write-report-3
-slice-aggregate-write-report-3 c = sym (read-long _ _ _ _ _ _ _ _ (c .before .before .before .before .before .before
-    .before .before .read-sheet .ensures) (c .before .before .before .before .before .s .given .1) .1)
+slice-aggregate-write-report-3 c =
+    let c1 = c .before .before .before .before .before in
+    let c2 = c1 .before .before .before in
+    sym (read-long _ _ _ _ _ _ _ _ (c2 .read-sheet .ensures) (c1 .s .given .1) .1)
 
 write-report-requires : tie.Need-write-report-requires
-write-report-requires c κs = (
-  read-from _ _ _ _ _ _ _ _ (c .before .before .before .before .before .before .before
-      .before .read-sheet .ensures) (c .before .before .before .before .before .s .given .1) _ refl refl (c .before
-      .before .before .flat-costs .ensures),
-  (
-    read-long _ _ _ _ _ _ _ _ (c .before .before .before .before .before
-        .before .before .before .read-sheet .ensures) (c .before .before .before .before .before .s .given .1) .0,
-    read-long _ _ _ _ _ _ _ _ (c .before .before .before .before .before .before .before .before .read-sheet
-        .ensures) (c .before .before .before .before .before .s .given .1) .1,
-  ),
-)
+write-report-requires c κs =
+    let c1 = c .before .before .before .before .before in
+    let c2 = c1 .before .before .before in
+    let given2 = c1 .s .given .1 in (
+      read-from _ _ _ _ _ _ _ _ (c2 .read-sheet .ensures) given2 _ refl refl
+          (c .before .before .before .flat-costs .ensures),
+      (
+        read-long _ _ _ _ _ _ _ _ (c2 .read-sheet .ensures) (c1 .s .given .1) .0,
+        read-long _ _ _ _ _ _ _ _
+            (c2 .read-sheet .ensures) (c1 .s .given .1) .1,
+      ),
+    )
 
 returns : tie.Need-returns
 returns c = search needs

@@ -1,35 +1,24 @@
--- `columns_line` meets its contract: a number has at most twenty digits.
+-- `columns_line` meets its contract: it is a line of a word and a number.
 -- Assumes nothing.
-use native.Mathlib.Omega.{arith}
-use borrow.Author.Needs.{needs}
-use lib.ListN.{length}
-use Rattle.lines.specs.Bytes.{bytes}
-use Rattle.reports.proofs.LineLaws.{word-room}
-use Rattle.reports.proofs.LineSteps.{starts}
-use Rattle.reports.proofs.frame.columns_line.Statement.{statement}
 use Rattle.reports.specs.Frame.{columnsLine}
+use Rattle.lines.specs.Bytes.{bytes}
+use borrow.Author.Needs.{needs}
+use Rattle.reports.proofs.frame.columns_line.Statement.{statement}
 use Rattle.reports.proofs.frame.columns_line.Tie as tie
 
-slice-aggregate-put-word : tie.Need-slice-aggregate-put-word
-slice-aggregate-put-word c = search needs
+slice-aggregate-number-line : tie.Need-slice-aggregate-number-line
+slice-aggregate-number-line c = search needs
 
-put-word-requires : tie.Need-put-word-requires
-put-word-requires c κs =
-    let start = c .before .before .before in
-    word-room _ (start .args .c) _ (c .before .before .before .fits .c) (omega (arith, start .pre))
+number-line-requires : tie.Need-number-line-requires
+number-line-requires c κs = search needs
 
 same-length : tie.Need-same-length
 same-length c = search needs
 
 returns : tie.Need-returns
 unfolding columnsLine bytes
-returns c =
-    let fits = c .before .before .before .before .before .before .fits in
-    let start = c .before .before .before .before .before .before in
-    starts (c .before .before .put-word .ensures)
-    (word-room (bytes "columns ") (start .args .c) (length (start .args .line .now)) (fits .c)
-    (omega (arith, start .pre)))
+returns c = c .before .before .number-line .ensures
 
 pub columns-line-spec : {M : Type 1} → statement M
 columns-line-spec =
-    tie.close (tie.spec slice-aggregate-put-word put-word-requires same-length returns)
+    tie.close (tie.spec slice-aggregate-number-line number-line-requires same-length returns)
