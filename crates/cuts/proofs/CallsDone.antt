@@ -1,5 +1,5 @@
--- Each call can be done: on a table that keeps the rules, with room, a column of it and a start, whatever lists are lent,
--- there are lists with which its promise holds, and they have what the definitions by rows give.
+-- Each call can be done: on a table that keeps the rules, given a column and a start, whatever lists with room are
+-- lent, there are lists with which its promise holds, and they have what the definitions by rows give.
 -- Assumes nothing.
 use mathlib.Core.List.{List, [], _∷_}
 use mathlib.Core.Path.{_≡_, refl, sym, subst}

@@ -20,7 +20,8 @@ use Rattle.cuts.specs.Call.{ScoreCall, HandUpCall, LabelCall, SetsCall}
 use Rattle.cuts.proofs.CallsDone.{score-done, hand-up-done, label-done, sets-done}
 
 -- zeros, so many that a call has room
-zeros-fit : (I : Input) (n : ℕ) → Fits I n (length {A = ℕ} (replicate n 0)) (length {A = ℕ} (replicate (nodes I * I .s) 0))
+zeros-fit : (I : Input) (n : ℕ)
+    → Fits I n (length {A = ℕ} (replicate n 0)) (length {A = ℕ} (replicate (nodes I * I .s) 0))
 zeros-fit I n =
     let output = length-replicate {A = ℕ} n 0 in
     let rows = length-replicate {A = ℕ} (nodes I * I .s) 0 in
