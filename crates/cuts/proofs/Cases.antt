@@ -3,6 +3,7 @@
 use mathlib.Core.List.{List, [], _∷_}
 use mathlib.Core.Path.{_≡_, refl}
 use Prim.Native.Nat.{ℕ, _+_, _*_}
+use native.Mathlib.Omega.{arith}
 use lib.ListN.{getD}
 use Rattle.parsimony.specs.Column.{columnOf}
 use Rattle.parsimony.specs.Table.{tips}
@@ -11,6 +12,7 @@ use Rattle.cuts.specs.Cut.{part, rest, span, branch, laterCell, laterEnt
 use Rattle.parsimony.specs.Filled.{listOf}
 use Rattle.cuts.specs.Filled.{cellsBy, entriesBy}
 use Rattle.cuts.specs.Piece.{nodeNew, keptCell, keptEntry}
+use Rattle.cuts.specs.Plan.{whole, cutAt, columnsAt, Suits}
 
 abbrev none : ℕ
 none = 65535
@@ -74,3 +76,16 @@ case-twice : rest once 2 (sends (1 ∷ 2 ∷ 3 ∷ 4 ∷ []))
     ≡ input (none ∷ none ∷ 0 ∷ []) (32768 ∷ 32769 ∷ 1 ∷ []) 4 unit 1 [] (1 ∷ 2 ∷ 3 ∷ 4 ∷ 9 ∷ 8 ∷ 7 ∷ 6 ∷ [])
 unfolding listOf cellsBy entriesBy nodeNew keptCell keptEntry branch columnOf
 case-twice = refl
+
+-- a plan that suits the report: its first column is cut at node 2, the other is worked whole
+case-suits : Suits (columnsAt 1 (cutAt 2 whole whole) whole) report
+unfolding listOf cellsBy entriesBy nodeNew keptCell keptEntry branch columnOf laterCell laterEntry tips
+case-suits = (omega arith, ((record { inside = omega arith; kids = (0, 1, refl) }, (tt, λ sent low. tt)), tt))
+
+-- and one that suits the two cherries: both are cut off, one after the other
+case-suits-twice : Suits (cutAt 5 whole (cutAt 2 whole whole)) crossed
+unfolding listOf cellsBy entriesBy nodeNew keptCell keptEntry branch columnOf
+case-suits-twice = (
+  record { inside = omega arith; kids = (3, 4, refl) },
+  (tt, λ sent low. (record { inside = omega arith; kids = (0, 1, refl) }, (tt, λ more under. tt))),
+)

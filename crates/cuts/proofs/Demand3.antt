@@ -8,7 +8,10 @@ use native.Mathlib.Omega.{arith}
 use Rattle.parsimony.specs.Allowed.{mostHanded}
 use Rattle.parsimony.specs.Barred.{barred}
 use Rattle.parsimony.specs.Column.{Column, columnOf}
+use Rattle.parsimony.specs.Label.{labelFrom, freeStart}
 use Rattle.parsimony.specs.Labelling.{IsScore}
+use Rattle.parsimony.specs.Least.{lowest}
+use Rattle.parsimony.specs.NodeSet.{setsFrom, freeSet}
 use Rattle.parsimony.specs.Row.{row, score, total}
 use Rattle.parsimony.specs.Sound.{Sound}
 use Rattle.parsimony.specs.Sum.{sum}
@@ -25,13 +28,15 @@ use Rattle.answers.specs.Rules.{All}
 use Rattle.answers.specs.Starts.{StateStart, SetStart}
 use Rattle.answers.specs.declared.Start.{Start}
 use Rattle.answers.proofs.RootLaws.{rules-legal, rules-sound}
+use Rattle.roots.specs.Starts.{stateOf}
 use Rattle.scorer.specs.Results.{IsLabelling, IsSet, IsEntry}
 use Rattle.scorer.proofs.ResultLaws.{row-entry}
 use Rattle.scorer.proofs.Meaning.{labelling-same, labelling-of, set-of}
 use Rattle.cuts.specs.Call.{Answers}
 use Rattle.cuts.specs.Cut.{CutAt, part}
 use Rattle.cuts.specs.Cuttable.{Cuttable}
-use Rattle.cuts.specs.Plan.{Plan, SendsUp, ScoresBy, LabelsBy, SetsBy, Everywhere}
+use Rattle.cuts.specs.Plan.{Plan, SendsUp, ScoresBy, LabelsBy, SetsBy, Suits, Everywhere}
+use Rattle.cuts.proofs.PlanMade.{plan-sends, plan-scores, plan-labels, plan-sets}
 use Rattle.cuts.proofs.PlanResults.{
   sends-right,
   sent-right,
@@ -112,6 +117,23 @@ module _ (W : Input) (rules : All (tableRules W [])) (none : tipsIn handed W ≡
   pub cut-sent : (v : ℕ) (sent : ℕ → ℕ → ℕ) → CutAt W v → SendsUp plan (part W v) sent
       → (j x : ℕ) → j < W .c → x < W .s → sent j x ≡ row (column W j) v x
   cut-sent v sent cut by = sent-right plan W v sent ok cut by
+
+  -- Where the plan's cuts are allowed, calls put together what the whole gives: its scores, its labels and its sets,
+  -- from any start, and the rows that it hands up.
+  module _ (suits : Suits plan W) where
+    pub scores-made : ScoresBy plan W (λ j. score (column W j))
+    scores-made = plan-scores plan W _ ok suits (λ j hj. refl)
+
+    pub labels-made : (j : ℕ) (start : Start) → j < W .c → StateStart W j start
+        → LabelsBy plan W j start (labelFrom lowest (column W j) (stateOf start (freeStart (column W j))))
+    labels-made j start hj fit = plan-labels plan W j start _ ok suits hj fit (λ v h. refl)
+
+    pub sets-made : (j : ℕ) (start : Start) → j < W .c → SetStart W j start
+        → SetsBy plan W j start (setsFrom (column W j) (stateOf start (freeSet (column W j))))
+    sets-made j start hj fit = plan-sets plan W j start _ ok suits hj fit (λ v h. refl)
+
+    pub rows-made : SendsUp plan W (λ j x. row (column W j) (nodes W - 1) x)
+    rows-made = plan-sends plan W _ ok suits (λ j x hj hx. refl)
 
   -- What is put together by any other plan is the same; not to cut is one.
   module _ (other : Plan) where

@@ -66,7 +66,7 @@ sets-down =
 
 module _ (F : Column → ℕ → ℕ → ℕ) (down : Downward F) (I : Input) (ok : Cuttable I) where
   -- the work on a piece, from the value at the node on top, is the work on the table
-  piece-down : (K : Choice) (top : ℕ) → Stands I K top → (j : ℕ) → j < I .c → (x i : ℕ) → i < nodes (piece I K)
+  pub piece-down : (K : Choice) (top : ℕ) → Stands I K top → (j : ℕ) → j < I .c → (x i : ℕ) → i < nodes (piece I K)
       → F (column I j) x (nodeOf I K i) ≡ F (column (piece I K) j) (F (column I j) x top) i
   unfolding columnOf
   piece-down K top stands j hj x i hi =

@@ -24,6 +24,7 @@ use Rattle.cuts.specs.Cuttable.{Cuttable}
 use Rattle.cuts.specs.Piece.{Choice, nodeOf}
 use Rattle.cuts.specs.Plan.{Plan, whole, cutAt, columnsAt, SendsUp, ScoresBy, Comes, LabelsBy, SetsBy, Everywhere}
 use Rattle.cuts.proofs.CallLaws.{rules-answer, hand-up-row, score-of, labels-of, sets-of}
+use Rattle.cuts.proofs.CallsMade.{labels-made, sets-made}
 use Rattle.cuts.proofs.CutLaws.{part-stands, rest-stands, rest-own}
 use Rattle.cuts.proofs.PieceLaws.{Stands, piece-nodes, piece-top}
 use Rattle.cuts.proofs.PieceRules.{piece-sits}
@@ -33,7 +34,7 @@ use Rattle.cuts.proofs.SpanLaws.{span-sits, span-rules, span-row, span-
 use Rattle.cuts.proofs.StartLaws.{state-start, set-start, label-state, set-some, part-state, part-set}
 
 -- the number of a column in the second range, and back
-later : (m j : ℕ) → m ≤ j → m + (j - m) ≡ j
+pub later : (m j : ℕ) → m ≤ j → m + (j - m) ≡ j
 later m j h = omega arith
 
 -- The rows sent up are the table's rows at its root.
@@ -84,7 +85,7 @@ module _ (I : Input) (ok : Cuttable I) (v : ℕ) (cut : CutAt I v) (sent : ℕ �
       ∙ piece-top I (ok .rules) K (nodes I - 1) in-rest
 
   -- the rest's score, free starts and root's row are the table's
-  rest-top : SameTop (column (rest I v sent) j) (column I j)
+  pub rest-top : SameTop (column (rest I v sent) j) (column I j)
   unfolding columnOf
   rest-top =
       let sound = rules-sound I (ok .rules) j hj in
@@ -97,7 +98,7 @@ module _ (I : Input) (ok : Cuttable I) (v : ℕ) (cut : CutAt I v) (sent : ℕ �
 module _ (I : Input) (ok : Cuttable I) (first count : ℕ) (within : first + count ≤ I .c) (i j : ℕ) (low : i < count)
     (same : first + i ≡ j) where
   -- its score, free starts and root's row are the table's
-  span-top : SameTop (column (span I first count) i) (column I j)
+  pub span-top : SameTop (column (span I first count) i) (column I j)
   unfolding columnOf
   span-top =
       let sound = rules-sound I (ok .rules) (first + i) (omega arith) in
@@ -140,37 +141,41 @@ scores-right (columnsAt m first second) I S ok (within, (one, two)) j hj =
     ∙ span-top I ok m (I .c - m) (omega arith) (j - m) j (omega arith) (later m j high) .score)
 
 -- Work from the root down by calls: labelling or the sets, with the starts that its calls take.
-record Work (F : Column → ℕ → ℕ → ℕ) (free : Column → ℕ) (Call : Input → ℕ → Start → (ℕ → ℕ) → Type 0)
+pub record Work (F : Column → ℕ → ℕ → ℕ) (free : Column → ℕ) (Call : Input → ℕ → Start → (ℕ → ℕ) → Type 0)
     (Allowed : Input → ℕ → Start → Type 0) : Type 1 where
-  down : Downward F
-  call : (I : Input) → Cuttable I → (j : ℕ) → j < I .c → (start : Start) (f : ℕ → ℕ) → Allowed I j start → Call I j
+  pub down : Downward F
+  pub call : (I : Input) → Cuttable I → (j : ℕ) → j < I .c → (start : Start) (f : ℕ → ℕ) → Allowed I j start → Call I j
       start f
       → (v : ℕ) → v < nodes I → f v ≡ F (column I j) (stateOf start (free (column I j))) v
-  same : (A B : Column) → SameTop A B → free A ≡ free B
-  moves : (A B : Input) (j k : ℕ) → A .s ≡ B .s → SameTop (column A j) (column B k) → (start : Start) → Allowed B k
+  pub made : (I : Input) → Cuttable I → (j : ℕ) → j < I .c → (start : Start) (f : ℕ → ℕ) → Allowed I j start
+      → ((v : ℕ) → v < nodes I → f v ≡ F (column I j) (stateOf start (free (column I j))) v) → Call I j start f
+  pub same : (A B : Column) → SameTop A B → free A ≡ free B
+  pub moves : (A B : Input) (j k : ℕ) → A .s ≡ B .s → SameTop (column A j) (column B k) → (start : Start) → Allowed B k
       start
       → Allowed A j start
-  lowers : (I : Input) → Cuttable I → (j : ℕ) → j < I .c → (start : Start) → Allowed I j start → (v : ℕ) → CutAt I v
+  pub lowers : (I : Input) → Cuttable I → (j : ℕ) → j < I .c → (start : Start) → Allowed I j start → (v : ℕ) → CutAt I v
       → Allowed (part I v) j (Given (F (column I j) (stateOf start (free (column I j))) v))
 
-label-work : Work (labelFrom lowest) freeStart LabelCall StateStart
+pub label-work : Work (labelFrom lowest) freeStart LabelCall StateStart
 unfolding columnOf
 label-work =
     record {
       down = label-down;
       call = λ I ok j hj start f fit call v h. labels-of I (ok .rules) j hj start f fit call v h;
+      made = λ I ok j hj start f fit right. labels-made I (ok .rules) j hj start fit f right;
       same = λ A B top. top .start;
       moves = λ A B j k e top. state-start A B j k e (λ x h. top .root x (subst (λ s. x < s) (sym e) h));
       lowers = λ I ok j hj start fit v cut. part-state I ok j hj v cut _
           (label-state I ok j hj start fit v (let inside = cut .inside in omega arith));
     }
 
-sets-work : Work setsFrom freeSet SetsCall SetStart
+pub sets-work : Work setsFrom freeSet SetsCall SetStart
 unfolding columnOf
 sets-work =
     record {
       down = sets-down;
       call = λ I ok j hj start f fit call v h. sets-of I (ok .rules) j hj start f fit call v h;
+      made = λ I ok j hj start f fit right. sets-made I (ok .rules) j hj start fit f right;
       same = λ A B top. top .free;
       moves = λ A B j k e top. set-start A B j k e (λ x h. top .root x (subst (λ s. x < s) (sym e) h));
       lowers = λ I ok j hj start fit v cut. let inside = cut .inside in
@@ -181,8 +186,8 @@ sets-work =
 module _ {F : Column → ℕ → ℕ → ℕ} {free : Column → ℕ} {Call : Input → ℕ → Start → (ℕ → ℕ) → Type 0}
     {Allowed : Input → ℕ → Start → Type 0} (work : Work F free Call Allowed) where
   -- what is worked on a range is what is worked on the table
-  range-right : (I : Input) (ok : Cuttable I) (first count : ℕ) (within : first + count ≤ I .c) (i j : ℕ) → i < count
-      → first + i ≡ j → (start : Start) (v : ℕ) → v < nodes I
+  pub range-right : (I : Input) (ok : Cuttable I) (first count : ℕ) (within : first + count ≤ I .c) (i j : ℕ)
+      → i < count → first + i ≡ j → (start : Start) (v : ℕ) → v < nodes I
       → F (column (span I first count) i) (stateOf start (free (column (span I first count) i))) v
       ≡ F (column I j) (stateOf start (free (column I j))) v
   range-right I ok first count within i j low same start v h =

@@ -57,6 +57,17 @@ LabelsBy plan I j start l = Comes LabelCall plan I j start l
 abbrev pub SetsBy : Plan → Input → ℕ → Start → (ℕ → ℕ) → Type 0
 SetsBy plan I j start S = Comes SetsCall plan I j start S
 
+-- the plan's cuts are allowed on the table: on every piece, whatever rows the calls below it send, a node that is cut
+-- is inner and not the root, and a first range has no more columns than there are
+abbrev pub Suits : Plan → Input → Type 0
+Suits whole I = Unit {0}
+Suits (cutAt v below above) I =
+    CutAt I v
+    × (Suits below (part I v)
+    × ((sent : ℕ → ℕ → ℕ) → SendsUp below (part I v) sent → Suits above (rest I v sent)))
+Suits (columnsAt m first second) I =
+    (m ≤ I .c) × (Suits first (span I 0 m) × Suits second (span I m (I .c - m)))
+
 -- every table on which the plan makes calls meets Q, whatever rows the calls below it send
 abbrev pub Everywhere : (Input → Type 0) → Plan → Input → Type 0
 Everywhere Q whole I = Q I
