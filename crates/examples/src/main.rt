@@ -110,19 +110,18 @@ fn score_two(left: &[u16], right: &[u16]) -> u64 {
     )
 }
 
+// The table of two tips with the root's left child and the right list that are given.
+fn show_two(what: &[u8], child: u16, right: &[u16]) {
+    show(what, score_two(&[65535, 65535, child], right));
+}
+
 fn shapes() {
-    show(b"lists of 3 and 1:", score_two(&[65535, 65535, 0], &[0]));
-    show(b"two tips:", score_two(&[65535, 65535, 0], &[0, 1, 1]));
-    show(
-        b"row 2 of 2 at node 1:",
-        score_two(&[65535, 65535, 0], &[0, 2, 1]),
-    );
-    show(b"row 0 twice:", score_two(&[65535, 65535, 0], &[0, 0, 1]));
-    show(
-        b"a child not below:",
-        score_two(&[65535, 65535, 0], &[0, 1, 2]),
-    );
-    show(b"a child twice:", score_two(&[65535, 65535, 1], &[0, 1, 1]));
+    show_two(b"lists of 3 and 1:", 0, &[0]);
+    show_two(b"two tips:", 0, &[0, 1, 1]);
+    show_two(b"row 2 of 2 at node 1:", 0, &[0, 2, 1]);
+    show_two(b"row 0 twice:", 0, &[0, 0, 1]);
+    show_two(b"a child not below:", 0, &[0, 1, 2]);
+    show_two(b"a child twice:", 1, &[0, 1, 1]);
 }
 
 // Scoring a table of one tip.
@@ -142,57 +141,45 @@ fn score_tip(right: u16, s: u64, costs: &[u16], c: u64, cells: &[u16], handed: &
     )
 }
 
+// One tip with the cell that is given, under a cost table of s states.
+fn show_costs(what: &[u8], s: u64, cell: u16, costs: &[u16]) {
+    show(what, score_tip(0, s, costs, 1, &[cell], &[]));
+}
+
 fn costs() {
-    show(b"s = 1:", score_tip(0, 1, &[0], 1, &[1], &[]));
-    show(b"s = 16:", score_tip(0, 16, &[0; 256], 1, &[65535], &[]));
-    show(b"s = 17:", score_tip(0, 17, &[0; 289], 1, &[1], &[]));
-    show(b"cost 999:", score_tip(0, 2, &[0, 999, 1, 0], 1, &[1], &[]));
-    show(
-        b"cost 1,000:",
-        score_tip(0, 2, &[0, 1000, 1, 0], 1, &[1], &[]),
-    );
-    show(b"three costs:", score_tip(0, 2, &[0, 1, 1], 1, &[1], &[]));
-    show(b"diagonal 1:", score_tip(0, 2, &[0, 1, 1, 1], 1, &[1], &[]));
+    show_costs(b"s = 1:", 1, 1, &[0]);
+    show_costs(b"s = 16:", 16, 65535, &[0; 256]);
+    show_costs(b"s = 17:", 17, 1, &[0; 289]);
+    show_costs(b"cost 999:", 2, 1, &[0, 999, 1, 0]);
+    show_costs(b"cost 1,000:", 2, 1, &[0, 1000, 1, 0]);
+    show_costs(b"three costs:", 2, 1, &[0, 1, 1]);
+    show_costs(b"diagonal 1:", 2, 1, &[0, 1, 1, 1]);
+}
+
+// One tip of two states, its cells in c columns.
+fn show_cells(what: &[u8], right: u16, c: u64, cells: &[u16]) {
+    show(what, score_tip(right, 2, &[0, 1, 1, 0], c, cells, &[]));
 }
 
 fn cells() {
-    show(b"c = 0:", score_tip(0, 2, &[0, 1, 1, 0], 0, &[], &[]));
-    show(
-        b"c = 65,536, no tip a symbol:",
-        score_tip(32768, 2, &[0, 1, 1, 0], 65536, &[], &[]),
-    );
-    show(b"no cell:", score_tip(0, 2, &[0, 1, 1, 0], 1, &[], &[]));
-    show(
-        b"an empty cell:",
-        score_tip(0, 2, &[0, 1, 1, 0], 1, &[0], &[]),
-    );
-    show(
-        b"both states:",
-        score_tip(0, 2, &[0, 1, 1, 0], 1, &[3], &[]),
-    );
-    show(
-        b"state 2 of 2:",
-        score_tip(0, 2, &[0, 1, 1, 0], 1, &[4], &[]),
-    );
+    show_cells(b"c = 0:", 0, 0, &[]);
+    show_cells(b"c = 65,536, no tip a symbol:", 32768, 65536, &[]);
+    show_cells(b"no cell:", 0, 1, &[]);
+    show_cells(b"an empty cell:", 0, 1, &[0]);
+    show_cells(b"both states:", 0, 1, &[3]);
+    show_cells(b"state 2 of 2:", 0, 1, &[4]);
+}
+
+// One tip of two states that is handed its row in one column.
+fn show_handed(what: &[u8], handed: &[u32]) {
+    show(what, score_tip(32768, 2, &[0, 1, 1, 0], 1, &[], handed));
 }
 
 fn handed() {
-    show(
-        b"handed 1,020,978:",
-        score_tip(32768, 2, &[0, 1, 1, 0], 1, &[], &[1020978, 4294967295]),
-    );
-    show(
-        b"handed 1,020,979:",
-        score_tip(32768, 2, &[0, 1, 1, 0], 1, &[], &[1020979, 4294967295]),
-    );
-    show(
-        b"handed, wholly barred:",
-        score_tip(32768, 2, &[0, 1, 1, 0], 1, &[], &[4294967295, 4294967295]),
-    );
-    show(
-        b"handed, one entry:",
-        score_tip(32768, 2, &[0, 1, 1, 0], 1, &[], &[0]),
-    );
+    show_handed(b"handed 1,020,978:", &[1020978, 4294967295]);
+    show_handed(b"handed 1,020,979:", &[1020979, 4294967295]);
+    show_handed(b"handed, wholly barred:", &[4294967295, 4294967295]);
+    show_handed(b"handed, one entry:", &[0]);
     show(
         b"handed to no tip:",
         score_tip(0, 2, &[0, 1, 1, 0], 1, &[1], &[0, 0]),
@@ -237,17 +224,28 @@ fn set_tip(column: u64, start: u64) -> u64 {
     )
 }
 
-fn starts() {
-    show(b"column 0 of 1:", label_tip(0, NO_START));
-    show(b"column 1 of 1:", label_tip(1, NO_START));
-    show(b"start 0:", label_tip(0, 0));
-    show(b"start 1, barred at the root:", label_tip(0, 1));
-    show(b"start 2 of 2:", label_tip(0, 2));
-    show(b"start set {0}:", set_tip(0, 1));
-    show(b"start set {0,1}, 1 barred at the root:", set_tip(0, 3));
-    show(b"start set {2} of 2:", set_tip(0, 4));
-    show(b"an empty start set:", set_tip(0, 0));
-    show(b"column 1 of 1, sets:", set_tip(1, NO_START));
+fn show_label(what: &[u8], column: u64, start: u64) {
+    show(what, label_tip(column, start));
+}
+
+fn show_set(what: &[u8], column: u64, start: u64) {
+    show(what, set_tip(column, start));
+}
+
+fn label_starts() {
+    show_label(b"column 0 of 1:", 0, NO_START);
+    show_label(b"column 1 of 1:", 1, NO_START);
+    show_label(b"start 0:", 0, 0);
+    show_label(b"start 1, barred at the root:", 0, 1);
+    show_label(b"start 2 of 2:", 0, 2);
+}
+
+fn set_starts() {
+    show_set(b"start set {0}:", 0, 1);
+    show_set(b"start set {0,1}, 1 barred at the root:", 0, 3);
+    show_set(b"start set {2} of 2:", 0, 4);
+    show_set(b"an empty start set:", 0, 0);
+    show_set(b"column 1 of 1, sets:", 1, NO_START);
 }
 
 // Counting one tip by sets.
@@ -256,19 +254,14 @@ fn count_tip(right: u16, costs: &[u16], cells: &[u16], column: u64) -> u64 {
     fernijster_count(&[65535], &[right], 2, costs, 1, cells, column, &mut sets)
 }
 
+fn show_count(what: &[u8], costs: &[u16], column: u64) {
+    show(what, count_tip(0, costs, &[1], column));
+}
+
 fn counts() {
-    show(
-        b"counting, unit costs:",
-        count_tip(0, &[0, 1, 1, 0], &[1], 0),
-    );
-    show(
-        b"counting, column 1 of 1:",
-        count_tip(0, &[0, 1, 1, 0], &[1], 1),
-    );
-    show(
-        b"counting, a cost of 2:",
-        count_tip(0, &[0, 2, 1, 0], &[1], 0),
-    );
+    show_count(b"counting, unit costs:", &[0, 1, 1, 0], 0);
+    show_count(b"counting, column 1 of 1:", &[0, 1, 1, 0], 1);
+    show_count(b"counting, a cost of 2:", &[0, 2, 1, 0], 0);
     show(
         b"counting, a handed tip:",
         count_tip(32768, &[0, 1, 1, 0], &[], 0),
@@ -278,20 +271,6 @@ fn counts() {
 // Handing up one tip, with room for so many entries.
 fn hand_up_tip(row: &mut [u32], rows: &mut [u32]) -> u64 {
     fernijster_hand_up(&[65535], &[0], 2, &[0, 1, 1, 0], 1, &[1], &[], 0, row, rows)
-}
-
-fn rooms() {
-    show(
-        b"room for 2 entries and 2 row entries:",
-        hand_up_tip(&mut [7; 2], &mut [7; 2]),
-    );
-    show(b"room for 1 entry:", hand_up_tip(&mut [7; 1], &mut [7; 2]));
-    show(
-        b"room for 1 row entry:",
-        hand_up_tip(&mut [7; 2], &mut [7; 1]),
-    );
-    show(b"column 1 of 1, no room:", label_room(1));
-    show(b"column 0 of 1, no room:", label_room(0));
 }
 
 // Labelling with no room: WHICH comes before ROOM.
@@ -311,13 +290,28 @@ fn label_room(column: u64) -> u64 {
     )
 }
 
+fn rooms() {
+    show(
+        b"room for 2 entries and 2 row entries:",
+        hand_up_tip(&mut [7; 2], &mut [7; 2]),
+    );
+    show(b"room for 1 entry:", hand_up_tip(&mut [7; 1], &mut [7; 2]));
+    show(
+        b"room for 1 row entry:",
+        hand_up_tip(&mut [7; 2], &mut [7; 1]),
+    );
+    show(b"column 1 of 1, no room:", label_room(1));
+    show(b"column 0 of 1, no room:", label_room(0));
+}
+
 fn main() {
     sizes();
     shapes();
     costs();
     cells();
     handed();
-    starts();
+    label_starts();
+    set_starts();
     counts();
     rooms();
 }
