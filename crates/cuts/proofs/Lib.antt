@@ -15,6 +15,7 @@ pub mod CallsMade
 pub mod PlanLaws
 pub mod StartLaws
 pub mod PlanResults
+pub mod CutAgain
 pub mod PlanMade
 pub mod TipCounts
 pub mod RelativeOrder
