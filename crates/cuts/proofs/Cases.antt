@@ -11,8 +11,8 @@ use Rattle.answers.specs.Input.{Input, input}
 use Rattle.cuts.specs.Cut.{part, rest, span, branch, laterCell, laterEntry}
 use Rattle.parsimony.specs.Filled.{listOf}
 use Rattle.cuts.specs.Filled.{cellsBy, entriesBy}
-use Rattle.cuts.specs.Nodes.{cutsAt}
-use Rattle.cuts.specs.Piece.{nodeNew, keptCell, keptEntry}
+use Rattle.cuts.specs.Nodes.{cutsAt, nodesCut}
+use Rattle.cuts.specs.Piece.{nodeOf, nodeNew, keptCell, keptEntry}
 use Rattle.cuts.specs.Plan.{whole, cutAt, columnsAt, Suits}
 
 abbrev none : ℕ
@@ -111,3 +111,8 @@ case-comb = refl
 case-comb-twice : cutsAt comb (2 ∷ 6 ∷ []) ≡ cutAt 2 whole (cutAt 4 whole whole)
 unfolding listOf nodeNew branch
 case-comb-twice = refl
+
+-- and the node that is cut as number 4 there is node 6 of the comb
+case-comb-back : nodesCut (cutAt 2 whole (cutAt 4 whole whole)) comb (λ u. u) ≡ 2 ∷ 6 ∷ []
+unfolding listOf nodeNew nodeOf branch
+case-comb-back = refl

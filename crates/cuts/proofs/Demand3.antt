@@ -35,9 +35,9 @@ use Rattle.scorer.proofs.Meaning.{labelling-same, labelling-of, set-of}
 use Rattle.cuts.specs.Call.{Answers}
 use Rattle.cuts.specs.Cut.{CutAt, part}
 use Rattle.cuts.specs.Cuttable.{Cuttable}
-use Rattle.cuts.specs.Nodes.{MayCut, cutsAt}
+use Rattle.cuts.specs.Nodes.{MayCut, cutsAt, nodesCut}
 use Rattle.cuts.specs.Plan.{Plan, SendsUp, ScoresBy, LabelsBy, SetsBy, Suits, Everywhere}
-use Rattle.cuts.proofs.CutAgain.{nodes-suit}
+use Rattle.cuts.proofs.AnyNodes.{nodes-suit, nodes-exactly}
 use Rattle.cuts.proofs.PlanMade.{plan-sends, plan-scores, plan-labels, plan-sets}
 use Rattle.cuts.proofs.PlanResults.{
   sends-right,
@@ -159,6 +159,10 @@ module _ (W : Input) (rules : All (tableRules W [])) (none : tipsIn handed W ≡
   -- The plan that cuts the table at these nodes suits it.
   pub any-nodes : Suits (cutsAt W vs) W
   any-nodes = nodes-suit W (whole-cuttable W rules none) vs may
+
+  -- It cuts the table at these nodes and nowhere else.
+  pub any-nodes-exactly : nodesCut (cutsAt W vs) W (λ u. u) ≡ vs
+  any-nodes-exactly = nodes-exactly W (whole-cuttable W rules none) vs may
 
   -- By calls on its pieces the whole's scores are put together,
   pub nodes-scores : ScoresBy (cutsAt W vs) W (λ j. score (column W j))

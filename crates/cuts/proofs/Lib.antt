@@ -16,6 +16,7 @@ pub mod PlanLaws
 pub mod StartLaws
 pub mod PlanResults
 pub mod CutAgain
+pub mod AnyNodes
 pub mod PlanMade
 pub mod TipCounts
 pub mod RelativeOrder

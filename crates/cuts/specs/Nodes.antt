@@ -1,11 +1,11 @@
 -- Cuts by nodes: the plan that cuts a table at any inner nodes but the root, and the nodes that a plan cuts.
 -- Assumes nothing.
-use mathlib.Core.List.{List, [], _∷_}
-use Prim.Native.Nat.{ℕ, suc, _≤_}
+use mathlib.Core.List.{List, [], _∷_, _++_}
+use Prim.Native.Nat.{ℕ, suc, _-_, _≤_}
 use Rattle.answers.specs.Input.{Input}
-use Rattle.cuts.specs.Cut.{CutAt, rest, inRest}
+use Rattle.cuts.specs.Cut.{CutAt, part, rest, partNode, restNode, inRest, span}
 use Rattle.cuts.specs.Numbering.{renumber}
-use Rattle.cuts.specs.Plan.{Plan, whole, cutAt}
+use Rattle.cuts.specs.Plan.{Plan, whole, cutAt, columnsAt}
 
 -- the nodes of the list rise, none is below low, and each may be cut
 abbrev pub MayCut : Input → ℕ → List ℕ → Type 0
@@ -27,3 +27,14 @@ cutsFrom I now (v ∷ vs) =
 -- the plan that cuts a table at a rising list of its nodes
 abbrev pub cutsAt : Input → List ℕ → Plan
 cutsAt I vs = cutsFrom I (λ u. u) vs
+
+-- the nodes at which a plan cuts the table at hand, in the numbers of the whole, where back i is the number there of
+-- node i: those cut in the part and in the rest are traced back
+abbrev pub nodesCut : Plan → Input → (ℕ → ℕ) → List ℕ
+nodesCut whole I back = []
+nodesCut (cutAt v below above) I back =
+    back v
+    ∷ (nodesCut below (part I v) (λ i. back (partNode I v i))
+    ++ nodesCut above (rest I v noRows) (λ i. back (restNode I v noRows i)))
+nodesCut (columnsAt m first second) I back =
+    nodesCut first (span I 0 m) back ++ nodesCut second (span I m (I .c - m)) back
