@@ -15,8 +15,9 @@ use Rattle.cuts.specs.Cut.{CutAt, branch, part, rest, restNode, inPart, 
 use Rattle.cuts.specs.Numbering.{renumber}
 use Rattle.cuts.specs.Piece.{Choice, renumbered, nodeNew, piece}
 use Rattle.cuts.proofs.CutLaws.{part-stands, rest-stands, in-either}
+use Rattle.cuts.proofs.KeptLaws.{Stands, piece-own}
 use Rattle.cuts.proofs.NumberLaws.{renumber-lt, renumber-mono}
-use Rattle.cuts.proofs.PieceLaws.{Stands, piece-nodes, piece-node, piece-own}
+use Rattle.cuts.proofs.PieceNodes.{piece-nodes, piece-node}
 
 -- A kept inner node below the top may be cut in the piece, by its number there.
 pub piece-again : (I : Input) → All (tableRules I []) → (K : Choice) (top : ℕ) → Stands I K top → (u a b : ℕ) → u < top

@@ -5,6 +5,9 @@ pub mod NumberLaws
 pub mod FilledLaws
 pub mod WriteLaws
 pub mod SitsLaws
+pub mod KeptLaws
+pub mod PieceNodes
+pub mod PieceRows
 pub mod PieceLaws
 pub mod PieceRules
 pub mod CutLaws
