@@ -1,36 +1,24 @@
 -- A table may be cut at any inner nodes but the root: the plan that does so is allowed, and cuts nowhere else.
 -- Assumes nothing.
 use mathlib.Core.List.{List, [], _∷_}
-use mathlib.Core.Path.{_≡_, refl, ap, ap₂, sym, _∙_, subst, fun-ext}
+use mathlib.Core.Path.{_≡_, refl, ap, ap₂, sym, _∙_, subst}
 use Prim.Native.Nat.{ℕ, suc, _-_, _≤_, _<_}
 use native.Mathlib.Omega.{arith}
-use lib.ListN.{length}
-use Rattle.parsimony.specs.Filled.{listOf}
 use Rattle.parsimony.specs.Row.{row}
-use Rattle.parsimony.specs.Table.{symbol, handed, Node, leaf, inner}
 use Rattle.answers.specs.CallRules.{tableRules}
-use Rattle.answers.specs.Input.{Input, input, nodes, column}
+use Rattle.answers.specs.Input.{Input, nodes, column}
 use Rattle.answers.specs.Rules.{All}
-use Rattle.cuts.specs.Cut.{CutAt, branch, rest, restNode, inRest}
+use Rattle.cuts.specs.Cut.{CutAt, rest, restNode, inRest}
 use Rattle.cuts.specs.Cuttable.{Cuttable}
 use Rattle.cuts.specs.Nodes.{MayCut, noRows, cutsFrom, cutsAt, nodesCut}
-use Rattle.cuts.specs.Numbering.{renumber, original}
-use Rattle.cuts.specs.Piece.{
-  keptRow,
-  keptHanded,
-  renumbered,
-  leftEntry,
-  rightEntry,
-  nodeOf,
-  nodeNew,
-  keptNodes,
-}
+use Rattle.cuts.specs.Numbering.{renumber}
 use Rattle.cuts.specs.Plan.{whole, Suits}
 use Rattle.cuts.proofs.CutAgain.{rest-again, rest-order, rest-back}
 use Rattle.cuts.proofs.CutLaws.{rest-stands, rest-own}
 use Rattle.cuts.proofs.NumberLaws.{renumber-lt}
 use Rattle.cuts.proofs.PlanLaws.{again}
 use Rattle.cuts.proofs.PlanResults.{sent-right}
+use Rattle.cuts.proofs.SameTree.{SameTree, kept-same, node-same, rest-same}
 
 -- the nodes of the list, by the numbers that now gives them, rise, none is below low, and each may be cut
 abbrev Ready : Input → (ℕ → ℕ) → ℕ → List ℕ → Type 0
@@ -58,56 +46,6 @@ ready-rest I rules v cut sent right now (u ∷ vs) low least h lower (here, (at-
             (λ w low. rest-order I rules v cut sent right (now u) w (omega arith) (omega arith) low) more,
       ),
     )
-
--- a table of which only the tree is asked
-abbrev bare : Input → Input
-bare I = input (I .left) (I .right) 0 [] 0 [] []
-
--- a node of a rest does not depend on more of the table than the tree
-module _ (I : Input) (v : ℕ) (up : ℕ → ℕ → ℕ) where
-  renumbered-bare : (u : ℕ) (x : Node)
-      → renumbered I (inRest I v up) u x ≡ renumbered (bare I) (inRest (bare I) v noRows) u x
-  unfolding branch keptRow keptHanded
-  renumbered-bare u (leaf symbol r) = refl
-  renumbered-bare u (leaf handed k) = refl
-  renumbered-bare u (inner a b) = refl
-
-  new-bare : nodeNew I (inRest I v up) ≡ nodeNew (bare I) (inRest (bare I) v noRows)
-  unfolding branch nodeNew nodeOf
-  new-bare =
-      fun-ext (λ i. renumbered-bare (restNode I v up i) (inRest I v up .node (restNode I v up i)))
-
--- J has the tree of I
-record SameTree (I J : Input) : Type 0 where
-  left : J .left ≡ I .left
-  right : J .right ≡ I .right
-
--- what is kept in a rest, and its tree, depend on the tree alone
-module _ (I J : Input) (same : SameTree I J) (v : ℕ) (up up' : ℕ → ℕ → ℕ) where
-  kept-same : inRest J v up' .keep ≡ inRest I v up .keep
-  unfolding branch
-  kept-same = ap₂ (λ L R. inRest (input L R 0 [] 0 [] []) v noRows .keep) (same .left) (same .right)
-
-  node-same : restNode J v up' ≡ restNode I v up
-  unfolding nodeOf
-  node-same = ap₂ (λ keep L i. original keep (length L) i) kept-same (same .left)
-
-  new-same : nodeNew J (inRest J v up') ≡ nodeNew I (inRest I v up)
-  new-same =
-      new-bare J v up'
-      ∙ ap₂ (λ L R. nodeNew (input L R 0 [] 0 [] []) (inRest (input L R 0 [] 0 [] []) v noRows)) (same .left)
-      (same .right)
-      ∙ sym (new-bare I v up)
-
-  long-same : keptNodes J (inRest J v up') ≡ keptNodes I (inRest I v up)
-  long-same = ap₂ (λ keep L. renumber keep (length L)) kept-same (same .left)
-
-  rest-same : SameTree (rest I v up) (rest J v up')
-  rest-same =
-      record {
-        left = ap₂ (λ n f. listOf n (λ i. leftEntry (f i))) long-same new-same;
-        right = ap₂ (λ n f. listOf n (λ i. rightEntry (f i))) long-same new-same;
-      }
 
 -- the plan made from the tree of a table suits the table
 suits-from : (vs : List ℕ) (I J : Input) (now : ℕ → ℕ) (low : ℕ) → SameTree I J → Cuttable I → Ready I now low vs

@@ -19,6 +19,7 @@ pub mod PlanLaws
 pub mod StartLaws
 pub mod PlanResults
 pub mod CutAgain
+pub mod SameTree
 pub mod AnyNodes
 pub mod PlanMade
 pub mod TipCounts
