@@ -11,7 +11,8 @@ use Rattle.answers.specs.Input.{Input, input}
 use Rattle.cuts.specs.Cut.{part, rest, span, branch, laterCell, laterEntry}
 use Rattle.parsimony.specs.Filled.{listOf}
 use Rattle.cuts.specs.Filled.{cellsBy, entriesBy}
-use Rattle.cuts.specs.Piece.{nodeNew, keptCell, keptEntry}
+use Rattle.cuts.specs.Nodes.{cutsAt, nodesCut}
+use Rattle.cuts.specs.Piece.{nodeOf, nodeNew, keptCell, keptEntry}
 use Rattle.cuts.specs.Plan.{whole, cutAt, columnsAt, Suits}
 
 abbrev none : ℕ
@@ -89,3 +90,29 @@ case-suits-twice = (
   record { inside = omega arith; kids = (3, 4, refl) },
   (tt, λ sent low. (record { inside = omega arith; kids = (0, 1, refl) }, (tt, λ more under. tt))),
 )
+
+-- cut at both cherries: the lower is cut first, and the higher is node 3 of the rest
+case-cherries : cutsAt crossed (2 ∷ 5 ∷ []) ≡ cutAt 2 whole (cutAt 3 whole whole)
+unfolding listOf nodeNew branch
+case-cherries = refl
+
+-- a comb: nodes 0 and 1 under 2, 2 and 3 under 4, 4 and 5 under 6, and 6 and 7 under 8
+abbrev comb : Input
+comb =
+    input (none ∷ none ∷ 0 ∷ none ∷ 2 ∷ none ∷ 4 ∷ none ∷ 6 ∷ []) (0 ∷ 1 ∷ 1 ∷ 2 ∷ 3 ∷ 3 ∷ 5 ∷ 4 ∷ 7 ∷ []) 4 unit 1
+    (1 ∷ 2 ∷ 4 ∷ 8 ∷ 1 ∷ []) []
+
+-- cut at all its inner nodes but the root, one below the other: each is node 2 of what the cuts before it leave
+case-comb : cutsAt comb (2 ∷ 4 ∷ 6 ∷ []) ≡ cutAt 2 whole (cutAt 2 whole (cutAt 2 whole whole))
+unfolding listOf nodeNew branch
+case-comb = refl
+
+-- cut at the first and the last of them: the last is then node 4
+case-comb-twice : cutsAt comb (2 ∷ 6 ∷ []) ≡ cutAt 2 whole (cutAt 4 whole whole)
+unfolding listOf nodeNew branch
+case-comb-twice = refl
+
+-- and the node that is cut as number 4 there is node 6 of the comb
+case-comb-back : nodesCut (cutAt 2 whole (cutAt 4 whole whole)) comb (λ u. u) ≡ 2 ∷ 6 ∷ []
+unfolding listOf nodeNew nodeOf branch
+case-comb-back = refl

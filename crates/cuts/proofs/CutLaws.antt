@@ -21,7 +21,7 @@ use Rattle.answers.specs.Rules.{All}
 use Rattle.answers.proofs.RootLaws.{rules-sound, rules-node}
 use Rattle.cuts.specs.Cut.{CutAt, marked, branch, inPart, inRest}
 use Rattle.cuts.specs.Piece.{Choice}
-use Rattle.cuts.proofs.PieceLaws.{Stands, leaf-inner}
+use Rattle.cuts.proofs.KeptLaws.{Stands, leaf-inner}
 
 marked-own : (v mark : ℕ) → marked v v mark ≡ 1
 unfolding marked

@@ -1,6 +1,6 @@
 -- Demand 3 in the paper's words, for every table without handed rows of its own and every plan of cuts.
 -- Assumes nothing.
-use mathlib.Core.List.{[]}
+use mathlib.Core.List.{List, []}
 use mathlib.Core.Logic.{_⊎_, inl, inr}
 use mathlib.Core.Path.{_≡_, refl, sym, _∙_, subst}
 use Prim.Native.Nat.{ℕ, _-_, _≤_, _<_}
@@ -35,7 +35,9 @@ use Rattle.scorer.proofs.Meaning.{labelling-same, labelling-of, set-of}
 use Rattle.cuts.specs.Call.{Answers}
 use Rattle.cuts.specs.Cut.{CutAt, part}
 use Rattle.cuts.specs.Cuttable.{Cuttable}
+use Rattle.cuts.specs.Nodes.{MayCut, cutsAt, nodesCut}
 use Rattle.cuts.specs.Plan.{Plan, SendsUp, ScoresBy, LabelsBy, SetsBy, Suits, Everywhere}
+use Rattle.cuts.proofs.AnyNodes.{nodes-suit, nodes-exactly}
 use Rattle.cuts.proofs.PlanMade.{plan-sends, plan-scores, plan-labels, plan-sets}
 use Rattle.cuts.proofs.PlanResults.{
   sends-right,
@@ -150,3 +152,32 @@ module _ (W : Input) (rules : All (tableRules W [])) (none : tipsIn handed W ≡
         → SetsBy other W j start T → (v : ℕ) → v < nodes W → S v ≡ T v
     same-sets j start S T hj fit by to v h =
         sets-right plan W j start S ok hj fit by v h ∙ sym (sets-right other W j start T ok hj fit to v h)
+
+-- Any inner nodes but the root: the table may be cut at all of them, and calls put together what the whole gives.
+module _ (W : Input) (rules : All (tableRules W [])) (none : tipsIn handed W ≡ 0) (vs : List ℕ)
+    (may : MayCut W 0 vs) where
+  -- The plan that cuts the table at these nodes suits it.
+  pub any-nodes : Suits (cutsAt W vs) W
+  any-nodes = nodes-suit W (whole-cuttable W rules none) vs may
+
+  -- It cuts the table at these nodes and nowhere else.
+  pub any-nodes-exactly : nodesCut (cutsAt W vs) W (λ u. u) ≡ vs
+  any-nodes-exactly = nodes-exactly W (whole-cuttable W rules none) vs may
+
+  -- By calls on its pieces the whole's scores are put together,
+  pub nodes-scores : ScoresBy (cutsAt W vs) W (λ j. score (column W j))
+  nodes-scores = scores-made W rules none (cutsAt W vs) any-nodes
+
+  -- its labels, from any start,
+  pub nodes-labels : (j : ℕ) (start : Start) → j < W .c → StateStart W j start
+      → LabelsBy (cutsAt W vs) W j start (labelFrom lowest (column W j) (stateOf start (freeStart (column W j))))
+  nodes-labels = labels-made W rules none (cutsAt W vs) any-nodes
+
+  -- its sets, from any start,
+  pub nodes-sets : (j : ℕ) (start : Start) → j < W .c → SetStart W j start
+      → SetsBy (cutsAt W vs) W j start (setsFrom (column W j) (stateOf start (freeSet (column W j))))
+  nodes-sets = sets-made W rules none (cutsAt W vs) any-nodes
+
+  -- and the rows that it hands up.
+  pub nodes-rows : SendsUp (cutsAt W vs) W (λ j x. row (column W j) (nodes W - 1) x)
+  nodes-rows = rows-made W rules none (cutsAt W vs) any-nodes

@@ -5,6 +5,9 @@ pub mod NumberLaws
 pub mod FilledLaws
 pub mod WriteLaws
 pub mod SitsLaws
+pub mod KeptLaws
+pub mod PieceNodes
+pub mod PieceRows
 pub mod PieceLaws
 pub mod PieceRules
 pub mod CutLaws
@@ -15,6 +18,9 @@ pub mod CallsMade
 pub mod PlanLaws
 pub mod StartLaws
 pub mod PlanResults
+pub mod CutAgain
+pub mod SameTree
+pub mod AnyNodes
 pub mod PlanMade
 pub mod TipCounts
 pub mod RelativeOrder

@@ -42,21 +42,10 @@ use Rattle.cuts.specs.Piece.{
 use Rattle.cuts.specs.Sits.{Sits}
 use Rattle.parsimony.proofs.FilledLaws.{place-split}
 use Rattle.cuts.proofs.FilledLaws.{cells-long, cells-at, entries-long, entries-at}
+use Rattle.cuts.proofs.KeptLaws.{Stands, from, row-kept, row-marks, handed-marks, piece-some}
 use Rattle.cuts.proofs.NumberLaws.{renumber-lt, original-is, original-own}
-use Rattle.cuts.proofs.PieceLaws.{
-  Stands,
-  from,
-  row-kept,
-  row-marks,
-  handed-marks,
-  piece-nodes,
-  piece-node,
-  piece-handed,
-  piece-symbol,
-  piece-tree,
-  piece-size,
-  piece-some,
-}
+use Rattle.cuts.proofs.PieceLaws.{piece-tree, piece-size}
+use Rattle.cuts.proofs.PieceNodes.{piece-nodes, piece-node, piece-handed, piece-symbol}
 use Rattle.cuts.proofs.SitsLaws.{sits-rows}
 
 -- of two numbers whose product is 1, the first at most 1, both are 1

@@ -22,7 +22,8 @@ use Rattle.cuts.specs.Numbering.{renumber}
 use Rattle.cuts.specs.Piece.{Choice, nodeOf, keptNodes, piece}
 use Rattle.cuts.specs.Sits.{Sits}
 use Rattle.cuts.proofs.CutLaws.{part-stands, rest-stands, in-either}
-use Rattle.cuts.proofs.PieceLaws.{Stands, piece-nodes, piece-top, piece-own, piece-some}
+use Rattle.cuts.proofs.KeptLaws.{Stands, piece-top, piece-own, piece-some}
+use Rattle.cuts.proofs.PieceNodes.{piece-nodes}
 use Rattle.cuts.proofs.PieceRules.{piece-sits, piece-rules, piece-row, piece-cuttable}
 use Rattle.cuts.proofs.SitsLaws.{sits-labels, sits-sets}
 

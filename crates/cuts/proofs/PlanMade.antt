@@ -24,7 +24,8 @@ use Rattle.cuts.specs.Piece.{Choice, nodeOf, piece}
 use Rattle.cuts.specs.Plan.{Plan, whole, cutAt, columnsAt, SendsUp, ScoresBy, Comes, LabelsBy, SetsBy, Suits}
 use Rattle.cuts.proofs.CallsMade.{score-made, hand-up-made}
 use Rattle.cuts.proofs.CutLaws.{part-stands, rest-stands}
-use Rattle.cuts.proofs.PieceLaws.{Stands, piece-nodes, from}
+use Rattle.cuts.proofs.KeptLaws.{Stands, from}
+use Rattle.cuts.proofs.PieceNodes.{piece-nodes}
 use Rattle.cuts.proofs.PlanLaws.{top-row, again, piece-down}
 use Rattle.cuts.proofs.PlanResults.{later, rest-top, span-top, Work, label-work, sets-work, range-right}
 use Rattle.cuts.proofs.SpanLaws.{span-row, span-cuttable}

@@ -26,7 +26,8 @@ use Rattle.cuts.specs.Plan.{Plan, whole, cutAt, columnsAt, SendsUp, Scor
 use Rattle.cuts.proofs.CallLaws.{rules-answer, hand-up-row, score-of, labels-of, sets-of}
 use Rattle.cuts.proofs.CallsMade.{labels-made, sets-made}
 use Rattle.cuts.proofs.CutLaws.{part-stands, rest-stands, rest-own}
-use Rattle.cuts.proofs.PieceLaws.{Stands, piece-nodes, piece-top}
+use Rattle.cuts.proofs.KeptLaws.{Stands, piece-top}
+use Rattle.cuts.proofs.PieceNodes.{piece-nodes}
 use Rattle.cuts.proofs.PieceRules.{piece-sits}
 use Rattle.cuts.proofs.PlanLaws.{top-row, again, Downward, label-down, sets-down, cut-above, cut-down}
 use Rattle.cuts.proofs.SitsLaws.{SameTop, sits-top}

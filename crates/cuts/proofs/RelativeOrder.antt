@@ -11,8 +11,8 @@ use Rattle.answers.specs.Input.{Input, nodes}
 use Rattle.answers.specs.Rules.{All}
 use Rattle.cuts.specs.Numbering.{renumber}
 use Rattle.cuts.specs.Piece.{Choice, keptRow, keptHanded, renumbered, nodeOf, keptNodes}
+use Rattle.cuts.proofs.KeptLaws.{Stands, from, row-kept}
 use Rattle.cuts.proofs.NumberLaws.{renumber-lt, renumber-mono}
-use Rattle.cuts.proofs.PieceLaws.{Stands, from, row-kept}
 use Rattle.cuts.proofs.PieceRules.{handed-kept}
 
 module _ (I : Input) (rules : All (tableRules I [])) (K : Choice) (top : ℕ) (stands : Stands I K top) where

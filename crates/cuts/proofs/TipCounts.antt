@@ -17,7 +17,7 @@ use Rattle.answers.specs.Input.{Input, nodes, nodeIn, tipsIn, column}
 use Rattle.answers.specs.Rules.{All}
 use Rattle.cuts.specs.Cut.{CutAt, branch, part, rest, inPart, inRest}
 use Rattle.cuts.proofs.CutLaws.{part-stands, rest-stands, branch-own}
-use Rattle.cuts.proofs.PieceLaws.{piece-nodes, tips-new}
+use Rattle.cuts.proofs.PieceNodes.{piece-nodes, tips-new}
 
 module _ (I : Input) (rules : All (tableRules I [])) (v : ℕ) (cut : CutAt I v) where
   -- the part has the tips at or below v

@@ -8,3 +8,4 @@ pub mod Sits
 pub mod Cuttable
 pub mod Call
 pub mod Plan
+pub mod Nodes
