@@ -4,8 +4,8 @@ use mathlib.Core.Path.{refl}
 use borrow.Author.Needs.{needs}
 use Rattle.answers.proofs.RuleLaws.{done-all}
 use Rattle.scorer.proofs.AnswerLaws.{given-same}
-use Rattle.scorer.proofs.label.Statement.{statement}
-use Rattle.scorer.proofs.label.Tie as tie
+use Rattle.scorer.proofs.labelling.label.Statement.{statement}
+use Rattle.scorer.proofs.labelling.label.Tie as tie
 
 label-tests-requires : tie.Need-label-tests-requires
 label-tests-requires c κs = search needs

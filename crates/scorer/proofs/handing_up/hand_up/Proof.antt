@@ -4,8 +4,8 @@ use mathlib.Core.Path.{refl}
 use borrow.Author.Needs.{needs}
 use Rattle.answers.proofs.RuleLaws.{done-all}
 use Rattle.scorer.proofs.AnswerLaws.{given-same}
-use Rattle.scorer.proofs.hand_up.Statement.{statement}
-use Rattle.scorer.proofs.hand_up.Tie as tie
+use Rattle.scorer.proofs.handing_up.hand_up.Statement.{statement}
+use Rattle.scorer.proofs.handing_up.hand_up.Tie as tie
 
 hand-up-tests-requires : tie.Need-hand-up-tests-requires
 hand-up-tests-requires c κs = search needs

@@ -7,8 +7,8 @@ use Rattle.answers.specs.Input.{Input, input}
 use Rattle.scorer.proofs.LinkLaws.{least-is}
 use Rattle.scorer.proofs.Meaning.{score-right}
 use Rattle.scorer.proofs.RuleParts.{score-parts}
-use Rattle.scorer.proofs.score_column.Statement.{statement}
-use Rattle.scorer.proofs.score_column.Tie as tie
+use Rattle.scorer.proofs.scoring.score_column.Statement.{statement}
+use Rattle.scorer.proofs.scoring.score_column.Tie as tie
 
 -- the table that is given
 abbrev table : tie.Start → Input

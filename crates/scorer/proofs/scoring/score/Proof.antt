@@ -4,8 +4,8 @@ use mathlib.Core.Path.{refl}
 use borrow.Author.Needs.{needs}
 use Rattle.answers.proofs.RuleLaws.{done-all}
 use Rattle.scorer.proofs.AnswerLaws.{given-same}
-use Rattle.scorer.proofs.score.Statement.{statement}
-use Rattle.scorer.proofs.score.Tie as tie
+use Rattle.scorer.proofs.scoring.score.Statement.{statement}
+use Rattle.scorer.proofs.scoring.score.Tie as tie
 
 score-tests-requires : tie.Need-score-tests-requires
 score-tests-requires c κs = search needs

@@ -12,8 +12,8 @@ use Rattle.scorer.proofs.LinkLaws.{rules-state, rules-calm, least-is}
 use Rattle.scorer.proofs.Meaning.{score-right}
 use Rattle.scorer.proofs.RuleParts.{work-parts}
 use Rattle.scorer.proofs.StartSteps.{labels-right, sets-right}
-use Rattle.scorer.proofs.fill_column.Statement.{statement}
-use Rattle.scorer.proofs.fill_column.Tie as tie
+use Rattle.scorer.proofs.whole_work.fill_column.Statement.{statement}
+use Rattle.scorer.proofs.whole_work.fill_column.Tie as tie
 
 -- the table that is given
 abbrev table : tie.Start → Input

@@ -7,8 +7,8 @@ use lib.ListN.{length}
 use Rattle.answers.specs.Input.{Input, input}
 use Rattle.scorer.proofs.RuleParts.{score-parts}
 use Rattle.scorer.proofs.ScoreSteps.{ScoresTo, scores-none, scores-more, scores-all}
-use Rattle.scorer.proofs.score_columns.Statement.{statement}
-use Rattle.scorer.proofs.score_columns.Tie as tie
+use Rattle.scorer.proofs.scoring.score_columns.Statement.{statement}
+use Rattle.scorer.proofs.scoring.score_columns.Tie as tie
 
 abbrev Inv-loop : tie.InvT-loop
 Inv-loop left right s costs c cells handed scores₀ rows₀ h j₀ scores rows j =

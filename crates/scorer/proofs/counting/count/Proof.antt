@@ -7,8 +7,8 @@ use lib.ListN.{length}
 use Rattle.answers.proofs.RuleLaws.{done-all}
 use Rattle.scorer.proofs.AnswerLaws.{given-same}
 use Rattle.scorer.proofs.CountResult.{count-legal, count-right}
-use Rattle.scorer.proofs.count.Statement.{statement}
-use Rattle.scorer.proofs.count.Tie as tie
+use Rattle.scorer.proofs.counting.count.Statement.{statement}
+use Rattle.scorer.proofs.counting.count.Tie as tie
 
 count-tests-requires : tie.Need-count-tests-requires
 count-tests-requires c κs = search needs

@@ -4,8 +4,8 @@ use mathlib.Core.Path.{refl}
 use borrow.Author.Needs.{needs}
 use Rattle.answers.proofs.RuleLaws.{done-all}
 use Rattle.scorer.proofs.AnswerLaws.{given-same}
-use Rattle.scorer.proofs.sets.Statement.{statement}
-use Rattle.scorer.proofs.sets.Tie as tie
+use Rattle.scorer.proofs.set_call.sets.Statement.{statement}
+use Rattle.scorer.proofs.set_call.sets.Tie as tie
 
 sets-tests-requires : tie.Need-sets-tests-requires
 sets-tests-requires c κs = search needs

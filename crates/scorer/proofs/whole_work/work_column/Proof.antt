@@ -4,8 +4,8 @@ use mathlib.Core.Path.{refl}
 use borrow.Author.Needs.{needs}
 use Rattle.answers.proofs.RuleLaws.{done-all}
 use Rattle.scorer.proofs.AnswerLaws.{given-same}
-use Rattle.scorer.proofs.work_column.Statement.{statement}
-use Rattle.scorer.proofs.work_column.Tie as tie
+use Rattle.scorer.proofs.whole_work.work_column.Statement.{statement}
+use Rattle.scorer.proofs.whole_work.work_column.Tie as tie
 
 work-tests-requires : tie.Need-work-tests-requires
 work-tests-requires c κs = search needs
