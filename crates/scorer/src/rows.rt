@@ -7,7 +7,7 @@ ghost use Rattle.answers.specs.Input.{input};
 ghost use Rattle.answers.specs.Rules.{All};
 ghost use Rattle.scorer.specs.Promises.{Worked};
 use columns::up::fill_rows;
-use trees::shape::tips_of;
+use trees::nodes::tips_of;
 
 // The rows of column j.
 pub(crate) fn work_rows(

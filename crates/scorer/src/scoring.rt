@@ -12,7 +12,7 @@ use answers::Answer;
 use answers::calls::score_tests;
 use columns::up::fill_rows;
 use roots::root_least;
-use trees::shape::tips_of;
+use trees::nodes::tips_of;
 
 // The score of column j, where h is the number of handed tips; its rows are left in the row room.
 fn score_column(

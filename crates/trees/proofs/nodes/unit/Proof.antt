@@ -1,9 +1,9 @@
--- `shape::unit` meets its contract: it is the definition, case by case.
+-- `nodes::unit` meets its contract: it is the definition, case by case.
 -- Assumes nothing.
 use mathlib.Core.Path.{sym}
 use Rattle.parsimony.proofs.Order.{pick-true, pick-false}
-use Rattle.trees.proofs.shape.unit.Statement.{statement}
-use Rattle.trees.proofs.shape.unit.Tie as tie
+use Rattle.trees.proofs.nodes.unit.Statement.{statement}
+use Rattle.trees.proofs.nodes.unit.Tie as tie
 
 returns : tie.Need-returns
 returns c = sym (pick-true _ _ (c .if1 .taken))

@@ -1,4 +1,4 @@
--- `shape::note_children` meets its contract. The invariant: the marks count the child uses of the nodes below v. The
+-- `marks::note_children` meets its contract. The invariant: the marks count the child uses of the nodes below v. The
 -- measure is what is left of the nodes.
 -- Assumes nothing.
 use Prim.Native.Nat.{_≤_, _-_}
@@ -8,8 +8,8 @@ use lib.ListN.{length}
 use Rattle.parsimony.specs.Table.{nodeAt, childUses}
 use Rattle.trees.specs.Marks.{Counted}
 use Rattle.trees.proofs.MarkLaws.{children-low, children-counted, children-end}
-use Rattle.trees.proofs.shape.note_children.Statement.{statement}
-use Rattle.trees.proofs.shape.note_children.Tie as tie
+use Rattle.trees.proofs.marks.note_children.Statement.{statement}
+use Rattle.trees.proofs.marks.note_children.Tie as tie
 
 abbrev Inv-loop : tie.InvT-loop
 Inv-loop left right first used₀ v₀ used v = (v ≤ length left) × Counted (childUses (nodeAt left right) v) used

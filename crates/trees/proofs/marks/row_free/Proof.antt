@@ -1,9 +1,9 @@
--- `shape::row_free` meets its contract: each failed test refutes one part of the statement, and together they are it.
+-- `marks::row_free` meets its contract: each failed test refutes one part of the statement, and together they are it.
 -- Assumes nothing.
 use native.Mathlib.Omega.{arith}
 use borrow.Author.Needs.{needs}
-use Rattle.trees.proofs.shape.row_free.Statement.{statement}
-use Rattle.trees.proofs.shape.row_free.Tie as tie
+use Rattle.trees.proofs.marks.row_free.Statement.{statement}
+use Rattle.trees.proofs.marks.row_free.Tie as tie
 
 -- the row's number is not below t
 returns : tie.Need-returns

@@ -1,4 +1,4 @@
--- `shape::tip_at` meets its contract: the two tests are those of the definition, and their product says that both hold.
+-- `nodes::tip_at` meets its contract: the two tests are those of the definition, and their product says that both hold.
 -- Assumes nothing.
 use Prim.Native.Nat.{_-_}
 use native.Mathlib.Omega.{arith}
@@ -6,8 +6,8 @@ use borrow.Author.Needs.{needs}
 use lib.Dec.{eqb, ltb}
 use lib.ListN.{getD}
 use Rattle.trees.proofs.ShapeSteps.{unit-le, units-le, tip-entries}
-use Rattle.trees.proofs.shape.tip_at.Statement.{statement}
-use Rattle.trees.proofs.shape.tip_at.Tie as tie
+use Rattle.trees.proofs.nodes.tip_at.Statement.{statement}
+use Rattle.trees.proofs.nodes.tip_at.Tie as tie
 
 mul-unit : tie.Need-mul-unit
 mul-unit c = search needs

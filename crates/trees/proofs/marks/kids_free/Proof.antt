@@ -1,9 +1,9 @@
--- `shape::kids_free` meets its contract: each failed test refutes one part of the statement, and together they are it.
+-- `marks::kids_free` meets its contract: each failed test refutes one part of the statement, and together they are it.
 -- Assumes nothing.
 use native.Mathlib.Omega.{arith}
 use borrow.Author.Needs.{needs}
-use Rattle.trees.proofs.shape.kids_free.Statement.{statement}
-use Rattle.trees.proofs.shape.kids_free.Tie as tie
+use Rattle.trees.proofs.marks.kids_free.Statement.{statement}
+use Rattle.trees.proofs.marks.kids_free.Tie as tie
 
 -- the left child is not below v
 returns : tie.Need-returns

@@ -1,4 +1,4 @@
--- `shape::tips_of` meets its contract. The invariant: the count is that of the tips among the nodes below v. The
+-- `nodes::tips_of` meets its contract. The invariant: the count is that of the tips among the nodes below v. The
 -- measure is what is left of the nodes.
 -- Assumes nothing.
 use mathlib.Core.Path.{_≡_, sym, ap, _∙_}
@@ -9,8 +9,8 @@ use lib.ListN.{length}
 use Rattle.parsimony.specs.Table.{nodeAt, tips}
 use Rattle.trees.specs.NodeOf.{kindOf}
 use Rattle.trees.proofs.ShapeSteps.{tips-none, tips-step}
-use Rattle.trees.proofs.shape.tips_of.Statement.{statement}
-use Rattle.trees.proofs.shape.tips_of.Tie as tie
+use Rattle.trees.proofs.nodes.tips_of.Statement.{statement}
+use Rattle.trees.proofs.nodes.tips_of.Tie as tie
 
 abbrev Inv-loop : tie.InvT-loop
 Inv-loop left right handed count₀ v₀ count v = (v ≤ length left) × (count ≡ tips (kindOf handed) (nodeAt left right) v)

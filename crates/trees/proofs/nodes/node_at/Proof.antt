@@ -1,11 +1,11 @@
--- `shape::node_at` meets its contract: the tests are those of the definition, case by case.
+-- `nodes::node_at` meets its contract: the tests are those of the definition, case by case.
 -- Assumes nothing.
 use mathlib.Core.Path.{ap, _∙_}
 use borrow.Author.Needs.{needs}
 use Rattle.parsimony.specs.Table.{symbol, handed, leaf}
 use Rattle.trees.proofs.ShapeSteps.{node-symbol, node-handed, node-inner}
-use Rattle.trees.proofs.shape.node_at.Statement.{statement}
-use Rattle.trees.proofs.shape.node_at.Tie as tie
+use Rattle.trees.proofs.nodes.node_at.Statement.{statement}
+use Rattle.trees.proofs.nodes.node_at.Tie as tie
 
 mul-if1 : tie.Need-mul-if1
 mul-if1 c = search needs

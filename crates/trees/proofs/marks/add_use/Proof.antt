@@ -1,10 +1,10 @@
--- `shape::add_use` meets its contract: a store at u adds one there, and past the entries nothing is to be added.
+-- `marks::add_use` meets its contract: a store at u adds one there, and past the entries nothing is to be added.
 -- Assumes nothing.
 use native.Mathlib.Omega.{arith}
 use borrow.Author.Needs.{needs}
 use Rattle.trees.proofs.MarkLaws.{raised-set, raised-out}
-use Rattle.trees.proofs.shape.add_use.Statement.{statement}
-use Rattle.trees.proofs.shape.add_use.Tie as tie
+use Rattle.trees.proofs.marks.add_use.Statement.{statement}
+use Rattle.trees.proofs.marks.add_use.Tie as tie
 
 mul-marks : tie.Need-mul-marks
 mul-marks c = search needs
