@@ -11,7 +11,8 @@ use Rattle.parsimony.proofs.Order.{pick-true, pick-false}
 
 module _ (left right : List ℕ) (v : ℕ) where
   -- a symbol tip
-  pub node-symbol : (r : ℕ) → r < 32768 → getD left v 0 ≡ 65535 → getD right v 0 ≡ r → nodeAt left right v ≡ leaf symbol r
+  pub node-symbol : (r : ℕ) → r < 32768 → getD left v 0 ≡ 65535 → getD right v 0 ≡ r
+      → nodeAt left right v ≡ leaf symbol r
   unfolding nodeAt leafAt
   node-symbol r small e f = pick-true _ _ (eq-eqb _ 65535 e) ∙ ap leafAt f ∙ pick-true _ _ (lt-ltb r 32768 small)
 
