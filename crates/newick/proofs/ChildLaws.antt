@@ -3,9 +3,10 @@
 use mathlib.Core.Path.{_≡_, ap, sym, _∙_}
 use Prim.Native.Nat.{ℕ, suc, _+_, _-_, _≤_, _<_}
 use native.Mathlib.Omega.{arith}
-use Rattle.parsimony.specs.Table.{Kind, symbol, Node, leaf, inner, kidsOf}
+use Rattle.parsimony.specs.Table.{symbol, Node, leaf, inner, kidsOf}
 use Rattle.parsimony.specs.Test.{at}
 use Rattle.parsimony.specs.Tree.{each}
+use Rattle.parsimony.proofs.NodeLaws.{leaf-inner}
 use Rattle.parsimony.proofs.Order.{by-lt, by-eq, at-same, at-other}
 use Rattle.newick.specs.Vine.{Vine, tip, pair, size}
 use Rattle.newick.proofs.PairSteps.{size-some}
@@ -17,9 +18,6 @@ Stood node (tip r) n = node n ≡ leaf symbol r
 Stood node (pair a b) n =
     Stood node a n
     × (Stood node b (n + size a) × (node (n + size a + size b) ≡ inner (n + size a - 1) (n + size a + size b - 1)))
-
-leaf-inner : {k : Kind} {r a b : ℕ} → leaf k r ≡ inner a b → ⊥
-leaf-inner e = let z : _≡_ {A = ℕ} 0 1 = cc in omega arith
 
 inner-same : {a b c d : ℕ} → inner a b ≡ inner c d → (a ≡ c) × (b ≡ d)
 inner-same e = (cc, cc)

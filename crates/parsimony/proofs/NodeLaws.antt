@@ -1,4 +1,4 @@
--- A node of a table read from its two entries.
+-- A node of a table read from its two entries, and that a tip is no inner node.
 -- Assumes nothing.
 use mathlib.Core.List.{List}
 use mathlib.Core.Path.{_≡_, ap, ap₂, _∙_}
@@ -6,8 +6,12 @@ use Prim.Native.Nat.{ℕ, _+_, _-_, _<_}
 use native.Mathlib.Omega.{arith}
 use borrow.Author.Tests.{eq-eqb, ne-eqb, lt-ltb, le-ltb}
 use lib.ListN.{getD}
-use Rattle.parsimony.specs.Table.{symbol, handed, leaf, inner, leafAt, nodeAt}
+use Rattle.parsimony.specs.Table.{Kind, symbol, handed, leaf, inner, leafAt, nodeAt}
 use Rattle.parsimony.proofs.Order.{pick-true, pick-false}
+
+-- a tip is no inner node
+pub leaf-inner : {k : Kind} {r a b : ℕ} → leaf k r ≡ inner a b → ⊥
+leaf-inner e = let z : _≡_ {A = ℕ} 0 1 = cc in omega arith
 
 module _ (left right : List ℕ) (v : ℕ) where
   -- a symbol tip

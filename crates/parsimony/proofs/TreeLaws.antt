@@ -30,6 +30,10 @@ use Rattle.parsimony.specs.Tree.{
 use Rattle.parsimony.proofs.Order.{by-lt, by-eq, pick-true, pick-false, at-same, at-other, strong, downward}
 use Rattle.parsimony.proofs.Sums.{sum-same, sum-scale, sum-swap, sum-at, sum-two, sum-some, sum-add, sum-none}
 
+-- two children are not none
+pub two-not-tip : (a b : ℕ) → two a b ≡ tip → ⊥
+two-not-tip a b e = let z : _≡_ {A = ℕ} 0 1 = cc in omega arith
+
 -- a node's children one by one: what holds of each child
 pub each-same : (f g : ℕ → ℕ) (k : Kids) → ((u : ℕ) → Has u k → f u ≡ g u) → each f k ≡ each g k
 each-same f g tip h = refl
