@@ -20,7 +20,7 @@ use crate::starts::state_start;
 use crate::table::matrix_tests;
 use crate::table::table_tests;
 use tables::rules::unit_costs;
-use trees::shape::tips_of;
+use trees::nodes::tips_of;
 
 // An output has room for what is needed, and the row room for all rows.
 fn room_fits(n: usize, s: usize, needed: usize, output: usize, room: usize) -> bool

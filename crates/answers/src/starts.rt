@@ -12,9 +12,9 @@ ghost use Rattle.answers.specs.Starts.{OpenRoot, StateStart, SetStart};
 use crate::Start;
 use states::States;
 use steps::BARRED;
-use trees::shape::Node;
-use trees::shape::node_at;
-use trees::shape::tips_of;
+use trees::nodes::Node;
+use trees::nodes::node_at;
+use trees::nodes::tips_of;
 
 // State x is not barred at the root in column j, where h is the number of handed tips.
 fn root_open(

@@ -8,10 +8,10 @@ use crate::Refusal;
 use tables::rules::cells_fit;
 use tables::rules::costs_fit;
 use tables::rules::handed_fit;
+use trees::nodes::size_fits;
+use trees::nodes::tips_of;
 use trees::shape::Tree;
 use trees::shape::check_tree;
-use trees::shape::size_fits;
-use trees::shape::tips_of;
 
 // SIZE, SHAPE, COSTS and CELLS.
 pub fn matrix_tests(

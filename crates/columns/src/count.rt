@@ -8,7 +8,7 @@ ghost use Rattle.parsimony.specs.Tree.{merge};
 ghost use Rattle.columns.specs.Prelims.{Prelims};
 ghost use Rattle.columns.specs.Ready.{symbolTips, handedTips};
 use states::States;
-use trees::shape::Node;
+use trees::nodes::Node;
 
 // A node's preliminary set, and 1 where a change is counted at the node, else 0.
 struct NodeCount(u16, usize);
@@ -43,7 +43,7 @@ fn node_count(
         × (r .1 ≡ merge (kidsAt (now (left .entry)) (now (right .entry)) v) 0 change
         (λ u. countedAt (now (left .entry)) (now (right .entry)) c (now (cells .entry)) j u .set)) ⌝ }
 {
-    match trees::shape::node_at(left, right, v) {
+    match trees::nodes::node_at(left, right, v) {
         Node::Symbol(r) => {
             let cell = cells[r * c + j];
             NodeCount(cell, 0)

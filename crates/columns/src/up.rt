@@ -7,7 +7,7 @@ ghost use Rattle.parsimony.specs.Row.{row};
 ghost use Rattle.columns.specs.Ready.{Ready, handedTips};
 ghost use Rattle.columns.specs.RowRoom.{Holds, RowRoom};
 ghost use Rattle.steps.specs.Wrote.{Wrote};
-use trees::shape::Node;
+use trees::nodes::Node;
 
 // Node v's row in column j, where the rows of the nodes below it stand in the room.
 fn node_row(
@@ -34,7 +34,7 @@ fn node_row(
         (now (rows .entry)) (now (rows .exit)) ⌝ }
 {
     let at = v * s;
-    match trees::shape::node_at(left, right, v) {
+    match trees::nodes::node_at(left, right, v) {
         Node::Symbol(r) => steps::cell_row(cells[r * c + j], rows, at, s),
         Node::Handed(k) => steps::copy_row(handed, (j * h + k) * s, rows, at, s),
         Node::Inner(a, b) => steps::inner_row(costs, rows, a * s, b * s, at, s),

@@ -8,8 +8,8 @@ ghost use Rattle.descents.specs.Down.{chosen, settled, Passed, Descended
 ghost use Rattle.steps.specs.Lane.{Calm};
 use steps::child_set;
 use steps::choose;
-use trees::shape::Node;
-use trees::shape::node_at;
+use trees::nodes::Node;
+use trees::nodes::node_at;
 
 fn wide(x: u8) -> usize
     ensures { λ r. ⌜ r ≡ x ⌝ }

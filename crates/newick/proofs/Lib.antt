@@ -6,6 +6,11 @@ pub mod TreeSteps
 pub mod SizeLaws
 pub mod PairSteps
 pub mod LineSteps
+pub mod SpanLaws
+pub mod ChildLaws
+pub mod TipLaws
+pub mod RuleLaws
+pub mod EntryLaws
 pub mod TableLaws
 pub mod OnceLaws
 pub mod NameLaws

@@ -31,7 +31,9 @@ use Rattle.newick.proofs.SizeLaws.{
   tree-from,
   tip-sized,
 }
-use Rattle.newick.proofs.TableLaws.{Rows, size-tip, size-pair, vine-legal, vine-tips, vine-handed}
+use Rattle.newick.proofs.SpanLaws.{size-tip, size-pair}
+use Rattle.newick.proofs.EntryLaws.{Rows}
+use Rattle.newick.proofs.TableLaws.{vine-legal, vine-tips, vine-handed}
 use Rattle.newick.specs.Nodes.{lefts, rights}
 use Rattle.parsimony.specs.Table.{symbol, handed, nodeAt, tips, Legal}
 use Rattle.lines.proofs.ByteLaws.{both-true}

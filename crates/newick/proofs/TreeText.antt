@@ -20,10 +20,10 @@ use Rattle.newick.specs.Parse.{got, noTree, onParsed, onByte, lineTree}
 use Rattle.newick.specs.TreeLine.{IsTreeLine}
 use Rattle.newick.specs.Vine.{Vine, tip, pair, size, occurs}
 use Rattle.newick.proofs.DenoteLaws.{tree-says, denotes-unique, denotes-read, end-byte}
+use Rattle.newick.proofs.EntryLaws.{Rows}
 use Rattle.newick.proofs.MarkLaws.{unmarked-marks, unmarked-row}
 use Rattle.newick.proofs.OnceLaws.{line-from, line-once, rows-count}
 use Rattle.newick.proofs.SizeLaws.{none-got}
-use Rattle.newick.proofs.TableLaws.{Rows}
 
 -- the rows of a tree that a text denotes are those of names
 denotes-rows : (sheet names : List ℕ) (t : ℕ) (v : Vine) (i e : ℕ) → Denotes sheet names t v i e → Rows t v

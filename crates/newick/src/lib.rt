@@ -112,7 +112,8 @@ fn set_mark(marks: &mut [u8; MOST_NAMES], r: usize)
 // Writes the two entries of node n.
 fn put_node(left: &mut [u16; MOST_NODES], right: &mut [u16; MOST_NODES], n: usize, l: u16, r: u16)
     requires { ⌜ n < 1023 ⌝ }
-    ensures { λ _. ⌜ (now (left .exit) ≡ set (now (left .entry)) n l) × (now (right .exit) ≡ set (now (right .entry)) n r) ⌝ }
+    ensures { λ _. ⌜ (now (left .exit) ≡ set (now (left .entry)) n l)
+        × (now (right .exit) ≡ set (now (right .entry)) n r) ⌝ }
 {
     left[n] = l;
     right[n] = r;
@@ -130,7 +131,8 @@ fn read_name(
     marks: &mut [u8; MOST_NAMES],
 ) -> Subtree
     requires { ⌜ Ready (now names) t n (now left) (now right) (now marks) ⌝ }
-    ensures { λ r. ⌜ Gives (tipOf (now (sheet .entry)) (now (names .entry)) t (now (marks .entry)) at) n (now (left .entry)) (now (right .entry)) r (now (left .exit)) (now (right .exit)) (now (marks .exit)) ⌝ }
+    ensures { λ r. ⌜ Gives (tipOf (now (sheet .entry)) (now (names .entry)) t (now (marks .entry)) at) n
+        (now (left .entry)) (now (right .entry)) r (now (left .exit)) (now (right .exit)) (now (marks .exit)) ⌝ }
 {
     let end = token_end(sheet, at);
     if end == at {
@@ -160,7 +162,8 @@ fn read_tree(
     marks: &mut [u8; MOST_NAMES],
 ) -> Subtree
     requires { ⌜ Ready (now names) t n (now left) (now right) (now marks) ⌝ }
-    ensures { λ r. ⌜ Gives (treeOf (now (sheet .entry)) (now (names .entry)) t depth (now (marks .entry)) at) n (now (left .entry)) (now (right .entry)) r (now (left .exit)) (now (right .exit)) (now (marks .exit)) ⌝ }
+    ensures { λ r. ⌜ Gives (treeOf (now (sheet .entry)) (now (names .entry)) t depth (now (marks .entry)) at) n
+        (now (left .entry)) (now (right .entry)) r (now (left .exit)) (now (right .exit)) (now (marks .exit)) ⌝ }
 {
     if byte_is(sheet, at, b'(') {
         return read_pair(sheet, names, t, at, n, depth, left, right, marks);
@@ -182,7 +185,8 @@ fn read_pair(
 ) -> Subtree
     requires { ⌜ Ready (now names) t n (now left) (now right) (now marks) ⌝ }
     requires { ⌜ at < length (now sheet) ⌝ }
-    ensures { λ r. ⌜ Gives (pairOf (now (sheet .entry)) (now (names .entry)) t depth (now (marks .entry)) at) n (now (left .entry)) (now (right .entry)) r (now (left .exit)) (now (right .exit)) (now (marks .exit)) ⌝ }
+    ensures { λ r. ⌜ Gives (pairOf (now (sheet .entry)) (now (names .entry)) t depth (now (marks .entry)) at) n
+        (now (left .entry)) (now (right .entry)) r (now (left .exit)) (now (right .exit)) (now (marks .exit)) ⌝ }
 {
     if depth == 0 {
         return Subtree::NoTree;
@@ -235,7 +239,8 @@ pub fn tree_line(
     right: &mut [u16; MOST_NODES],
 ) -> Subtree
     requires { ⌜ (t ≤ 512) × (t ≤ length (now names)) × (length (now left) ≡ 1023) × (length (now right) ≡ 1023) ⌝ }
-    ensures { λ r. ⌜ GivesLine (lineTree (now (sheet .entry)) (now (names .entry)) t at end) (now (left .entry)) (now (right .entry)) r (now (left .exit)) (now (right .exit)) ⌝ }
+    ensures { λ r. ⌜ GivesLine (lineTree (now (sheet .entry)) (now (names .entry)) t at end)
+        (now (left .entry)) (now (right .entry)) r (now (left .exit)) (now (right .exit)) ⌝ }
 {
     let mut marks = [0u8; MOST_NAMES];
     let Subtree::Tree(stop, n) = read_tree(

@@ -56,7 +56,8 @@ place x y n s h k = let step = suc-mul x s in let whole : suc x * s ≤ n * s = 
 
 -- a symbol tip's cell in column j of c is one of the m cells, where m is the number of symbol tips times c
 pub cell-place : {left right : List ℕ} → Legal left right → (v : ℕ) → v < length left → (c j r m : ℕ)
-    → m ≡ tips symbol (nodeAt left right) (length left) * c → j < c → nodeAt left right v ≡ leaf symbol r → r * c + j < m
+    → m ≡ tips symbol (nodeAt left right) (length left) * c → j < c → nodeAt left right v ≡ leaf symbol r
+    → r * c + j < m
 cell-place {left} {right} legal v h c j r m count inside e =
     let within = row-within (length left) (nodeAt left right) (legal .tree) v h symbol r e in
     let at = place r j (tips symbol (nodeAt left right) (length left)) c within inside in

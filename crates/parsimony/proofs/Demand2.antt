@@ -18,7 +18,7 @@ use Rattle.parsimony.specs.Sound.{Sound}
 use Rattle.parsimony.specs.StateSet.{Member}
 use Rattle.parsimony.specs.Table.{Legal, symbol, handed, Node, leaf, inner, kidsOf, kidsAt, nodeAt, tips}
 use Rattle.parsimony.specs.TipKinds.{AgreesByKind, costByKind}
-use Rattle.parsimony.specs.Tree.{Kids, tip, two}
+use Rattle.parsimony.specs.Tree.{tip}
 use Rattle.parsimony.proofs.ColumnLaws.{cell-place, column-sound, agrees-by-kind, cost-by-kind}
 use Rattle.parsimony.proofs.PrelimLaws.{count-score, count-sets}
 use Rattle.parsimony.proofs.Scoring.{
@@ -30,9 +30,7 @@ use Rattle.parsimony.proofs.Scoring.{
   set-from-exactly,
 }
 use Rattle.parsimony.proofs.ShapeLaws.{row-within}
-
-two-not-tip : (a b : ℕ) → two a b ≡ tip → ⊥
-two-not-tip a b e = let z : _≡_ {A = ℕ} 0 1 = cc in omega arith
+use Rattle.parsimony.proofs.TreeLaws.{two-not-tip}
 
 module _ (left right : List ℕ) (s : ℕ) (costs : List ℕ) (c : ℕ) (cells entries : List ℕ) (j : ℕ)
     (legal : Legal left right) (costRules : CostRules s costs)

@@ -12,7 +12,15 @@ use Rattle.parsimony.specs.Row.{up, row}
 use Rattle.parsimony.specs.Sound.{Sound}
 use Rattle.parsimony.specs.Tree.{tip, two, Has}
 use Rattle.parsimony.proofs.RowLaws.{row-tip}
-use Rattle.parsimony.proofs.Size.{bound-child, bound-root, bound-fits, bound-edges, row-bound, row-range, rows-balance}
+use Rattle.parsimony.proofs.Size.{
+  bound-child,
+  bound-root,
+  bound-fits,
+  bound-edges,
+  row-bound,
+  row-range,
+  rows-balance,
+}
 
 module _ (most : ℕ) (P : Column) (sound : Sound most P) where
   -- an entry that is not barred is below the barred entry

@@ -106,7 +106,8 @@ module _ (most : ℕ) (P : Column) (sound : Sound most P) where
 
       -- it costs the root's entry at the start
       pub label-from-costs : costOf P (labelFrom rule P x) ≡ row P (P .last) x
-      label-from-costs = tight-costs (labelFrom rule P x) label-states label-tight ∙ ap (row P (P .last)) (label-meets x .root)
+      label-from-costs =
+          tight-costs (labelFrom rule P x) label-states label-tight ∙ ap (row P (P .last)) (label-meets x .root)
 
       -- and is least among the labellings with that root, unless the root's state is barred
       pub label-from-least : (row P (P .last) x ≡ barred → ⊥) → LeastFrom P x (labelFrom rule P x)

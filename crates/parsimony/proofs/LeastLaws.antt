@@ -37,7 +37,8 @@ low-within f (suc n) h =
     by-lt (f n) (f (low f n)) (λ k. let e = low-new f n k in omega arith)
     (λ k. let e = low-old f n k in
     by-lt 0 n (λ p. let rest = low-within f n p in omega arith)
-    (λ p. let z : low f n ≡ 0 = subst (λ m. low f m ≡ 0) (le-antisymm {n = 0} (omega arith) p) (low-zero f) in omega arith))
+    (λ p. let z : low f n ≡ 0 = subst (λ m. low f m ≡ 0) (le-antisymm {n = 0} (omega arith) p) (low-zero f) in
+    omega arith))
 
 -- no value is below the least
 pub low-below : (f : ℕ → ℕ) (s z : ℕ) → z < s → f (low f s) ≤ f z
@@ -114,7 +115,8 @@ low-lowest f s h = record { least = low-least f s h; first = low-first f s }
 pub lowest-least-unique : (f : ℕ → ℕ) (s y z : ℕ) → LowestLeast f s y → LowestLeast f s z → y ≡ z
 lowest-least-unique f s y z hy hz =
     by-lt y z (λ k. absurd (let a = hz .first y k in let b = hy .least .below z (hz .least .within) in omega arith))
-    (λ k. by-lt z y (λ m. absurd (let a = hy .first z m in let b = hz .least .below y (hy .least .within) in omega arith))
+    (λ k. by-lt z y
+    (λ m. absurd (let a = hy .first z m in let b = hz .least .below y (hy .least .within) in omega arith))
     (λ m. omega arith))
 
 -- lowest is a tie rule

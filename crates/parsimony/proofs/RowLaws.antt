@@ -31,7 +31,8 @@ up-low P r x = least-low (through P r x) (P .states)
 pub up-same : (P : Column) → 0 < P .states → (r q : ℕ → ℕ) → ((y : ℕ) → y < P .states → r y ≡ q y) → (x : ℕ)
     → up P r x ≡ up P q x
 unfolding up
-up-same P pos r q h x = least-same (through P r x) (through P q x) (P .states) pos (λ y k. ap (plus (P .cost x y)) (h y k))
+up-same P pos r q h x =
+    least-same (through P r x) (through P q x) (P .states) pos (λ y k. ap (plus (P .cost x y)) (h y k))
 
 pub inner-same : (P : Column) → 0 < P .states → (a b c d : ℕ → ℕ)
     → ((y : ℕ) → y < P .states → a y ≡ c y) → ((y : ℕ) → y < P .states → b y ≡ d y)

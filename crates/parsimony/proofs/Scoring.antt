@@ -17,7 +17,17 @@ use Rattle.parsimony.specs.Row.{through, row, score}
 use Rattle.parsimony.specs.Sound.{Sound}
 use Rattle.parsimony.specs.StateSet.{Member}
 use Rattle.parsimony.specs.Tree.{Has}
-use Rattle.parsimony.proofs.LabelLaws.{TightLabels, States, tight-agrees, tight-costs, costs-least, costs-tight, label-meets, label-from-costs, label-from-least}
+use Rattle.parsimony.proofs.LabelLaws.{
+  TightLabels,
+  States,
+  tight-agrees,
+  tight-costs,
+  costs-least,
+  costs-tight,
+  label-meets,
+  label-from-costs,
+  label-from-least,
+}
 use Rattle.parsimony.proofs.LeastLaws.{least-below, least-low, low-within, low-lowest, lowest-rule}
 use Rattle.parsimony.proofs.SetLaws.{TightAt, sets-meet, sets-within, sets-taken, taken-sets}
 use Rattle.parsimony.proofs.Size.{bound-fits, row-open}
@@ -139,7 +149,8 @@ module _ (most : ℕ) (P : Column) (sound : Sound most P) where
       let s = score-entry (l (P .last)) (states (P .last) (omega arith)) in
       (costs-tight most P sound l states (omega arith), omega arith)
 
-  tight-least : (l : ℕ → ℕ) → States P l → TightLabels P l → row P (P .last) (l (P .last)) ≡ score P → LeastLabelling P l
+  tight-least : (l : ℕ → ℕ) → States P l → TightLabels P l → row P (P .last) (l (P .last)) ≡ score P
+      → LeastLabelling P l
   tight-least l states tight root =
       record {
         agrees = tight-agrees most P sound l states tight (λ e. let o = score-open in omega arith);
@@ -150,7 +161,8 @@ module _ (most : ℕ) (P : Column) (sound : Sound most P) where
       }
 
   -- the same among the labellings with the root in x
-  from-tight : (x : ℕ) (l : ℕ → ℕ) → x < P .states → (row P (P .last) x ≡ barred → ⊥) → LeastFrom P x l → TightLabels P l
+  from-tight : (x : ℕ) (l : ℕ → ℕ) → x < P .states → (row P (P .last) x ≡ barred → ⊥) → LeastFrom P x l
+      → TightLabels P l
   from-tight x l hx open-root least =
       let best = least .least (labelFrom lowest P x) (rule-forced lowest lowest-rule x hx open-root .agrees)
       (rule-root lowest lowest-rule x) in
@@ -189,7 +201,8 @@ module _ (most : ℕ) (P : Column) (sound : Sound most P) where
   unfolding sets
   set-exactly v y h = (
     (λ m. let t : TightAt P (freeSet P) v y = sets-taken most P sound (freeSet P) free-within v y h m in
-        (t .labels, tight-least (t .labels) (t .states) (t .tight) (free-member (t .labels (P .last)) .0 (t .root) .1), t .takes)),
+        let root = free-member (t .labels (P .last)) .0 (t .root) .1 in
+        (t .labels, tight-least (t .labels) (t .states) (t .tight) root, t .takes)),
     (λ taken. let (l, least, e) = taken in
         let (tight, root) = least-tight l least in
         let states = least .agrees .states in
@@ -210,7 +223,8 @@ module _ (most : ℕ) (P : Column) (sound : Sound most P) where
     set-from-exactly v y h = (
       (λ m. let t : TightAt P w v y = sets-taken most P sound w hw v y h m in
           let l = t .labels in
-          (l (P .last), t .root, (l, tight-from l (t .states) (t .tight) (open-root (l (P .last)) (t .root)), t .takes))),
+          let least = tight-from l (t .states) (t .tight) (open-root (l (P .last)) (t .root)) in
+          (l (P .last), t .root, (l, least, t .takes))),
       (λ taken. let (x, mx, (l, least, e)) = taken in
           let rooted : Member w (l (P .last)) = subst (Member w) (sym (least .root)) mx in
           let hx : x < P .states =

@@ -71,7 +71,8 @@ child-member P r w y = (to, from)
         gather-member (λ y. some (test y) (P .states)) (P .states) y .1 (
           hy,
           some-here (test y) (P .states) x hx
-              (both-true (holds w x) (eqb (through P r x y) (up P r x)) (holds-true w x mx) (eq-eqb (through P r x y) (up P r x) e)),
+              (both-true (holds w x) (eqb (through P r x y) (up P r x)) (holds-true w x mx)
+              (eq-eqb (through P r x y) (up P r x) e)),
         )
 
 -- a tight labelling whose root is in the start set w and which takes y at node v
@@ -154,12 +155,16 @@ module _ (most : ℕ) (P : Column) (sound : Sound most P) where
     turned-tight : TightLabels P (turned l v y)
     turned-tight r q hr cr =
         by-eq q v
-        (λ e. let same : r ≡ p = parent-unique (P .last) (P .kids) (sound .tree) r p v hr hp (subst (λ u. Has u (P .kids r)) e cr) c in
+        (λ e. let same : r ≡ p =
+        parent-unique (P .last) (P .kids) (sound .tree) r p v hr hp (subst (λ u. Has u (P .kids r)) e cr) c in
         let b = sound .tree .below hp c in
         let lr : turned l v y r ≡ l p = ap (turned l v y) same ∙ above p hp b in
         let lq : turned l v y q ≡ y = ap (turned l v y) e ∙ turned-takes in
-        let goal : P .cost (l p) y + row P v y ≡ up P (row P v) (l p) = through-plain most P sound p v (l p) y hp c (states p hp) reach in
-        subst (λ u. P .cost (turned l v y r) (turned l v y q) + row P u (turned l v y q) ≡ up P (row P u) (turned l v y r)) (sym e)
+        let goal : P .cost (l p) y + row P v y ≡ up P (row P v) (l p) =
+        through-plain most P sound p v (l p) y hp c (states p hp) reach in
+        subst
+        (λ u. P .cost (turned l v y r) (turned l v y q) + row P u (turned l v y q) ≡ up P (row P u) (turned l v y r))
+        (sym e)
         (subst (λ z. P .cost z (turned l v y q) + row P v (turned l v y q) ≡ up P (row P v) z) (sym lr)
         (subst (λ z. P .cost (l p) z + row P v z ≡ up P (row P v) (l p)) (sym lq) goal)))
         (λ ne. by-eq (turned l v y r) (l r)
@@ -169,7 +174,8 @@ module _ (most : ℕ) (P : Column) (sound : Sound most P) where
         (λ no-match. let lq : turned l v y q ≡ choose lowest P (row P q) (turned l v y r) =
         meets .edge hr cr ∙ turn-fresh r q (turned l v y r) hr cr ne no-match in
         through-plain most P sound r q (turned l v y r) (turned l v y q) hr cr (turned-states r hr)
-        (ap (through P (row P q) (turned l v y r)) lq ∙ choose-reaches most P sound lowest lowest-rule q (turned l v y r))))
+        (ap (through P (row P q) (turned l v y r)) lq
+        ∙ choose-reaches most P sound lowest lowest-rule q (turned l v y r))))
 
   module _ (w : ℕ) (hw : w < 2 ^ P .states) where
     -- the sets from a start set meet their equations

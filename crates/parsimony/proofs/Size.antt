@@ -100,7 +100,8 @@ pub bound-edges : (last : ℕ) (kids : ℕ → Kids) → Rooted last kids → bo
 unfolding costOf dearest
 bound-edges last kids tree =
     bound-cost last 0 kids tree
-    ∙ sum-same (λ v. costBelow (dearest last 0 kids tree) (λ v. 0) v (kids v)) (λ v. each (λ u. 999) (kids v)) (suc last)
+    ∙ sum-same (λ v. costBelow (dearest last 0 kids tree) (λ v. 0) v (kids v))
+    (λ v. each (λ u. 999) (kids v)) (suc last)
     (λ v h. at-kids v (kids v))
     ∙ sym (each-once last kids tree (λ u. 999))
     ∙ sum-const 999 last

@@ -44,7 +44,8 @@ module _ (P : Column) (tree : Rooted (P .last) (P .kids)) (R U : ℕ → ℕ →
       omega arith
 
   -- the cost is the root's entry plus the slack of all edges
-  pub cost-slack : costOf P l ≡ R (P .last) (l (P .last)) + sum (λ p. each (slack P R U l p) (P .kids p)) (suc (P .last))
+  pub cost-slack : costOf P l
+      ≡ R (P .last) (l (P .last)) + sum (λ p. each (slack P R U l p) (P .kids p)) (suc (P .last))
   unfolding costOf
   cost-slack =
       let f : ℕ → ℕ = λ u. R u (l u) in

@@ -54,7 +54,8 @@ sum-none f (suc n) h =
     omega arith
 
 pub sum-swap : (f : ℕ → ℕ → ℕ) (n m : ℕ) → sum (λ i. sum (f i) m) n ≡ sum (λ j. sum (λ i. f i j) n) m
-sum-swap f zero m = sum-zero (λ i. sum (f i) m) ∙ sym (sum-none (λ j. sum (λ i. f i j) 0) m (λ j h. sum-zero (λ i. f i j)))
+sum-swap f zero m =
+    sum-zero (λ i. sum (f i) m) ∙ sym (sum-none (λ j. sum (λ i. f i j) 0) m (λ j h. sum-zero (λ i. f i j)))
 sum-swap f (suc n) m =
     sum-suc (λ i. sum (f i) m) n
     ∙ ap (λ k. k + sum (f n) m) (sum-swap f n m)

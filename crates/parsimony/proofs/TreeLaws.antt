@@ -30,6 +30,10 @@ use Rattle.parsimony.specs.Tree.{
 use Rattle.parsimony.proofs.Order.{by-lt, by-eq, pick-true, pick-false, at-same, at-other, strong, downward}
 use Rattle.parsimony.proofs.Sums.{sum-same, sum-scale, sum-swap, sum-at, sum-two, sum-some, sum-add, sum-none}
 
+-- two children are not none
+pub two-not-tip : (a b : ℕ) → two a b ≡ tip → ⊥
+two-not-tip a b e = let z : _≡_ {A = ℕ} 0 1 = cc in omega arith
+
 -- a node's children one by one: what holds of each child
 pub each-same : (f g : ℕ → ℕ) (k : Kids) → ((u : ℕ) → Has u k → f u ≡ g u) → each f k ≡ each g k
 each-same f g tip h = refl
@@ -72,7 +76,8 @@ each-scale u m (two a b) = ap₂ _+_ (at-scale u m a) (at-scale u m b) ∙ sym (
 sum-each : (f : ℕ → ℕ) (n : ℕ) (k : Kids) → ((u : ℕ) → Has u k → u < n) → sum (λ u. each (at u (f u)) k) n ≡ each f k
 sum-each f n tip h = sum-none (λ u. 0) n (λ u k. refl)
 sum-each f n (two a b) h =
-    sum-add (λ u. at u (f u) a) (λ u. at u (f u) b) n ∙ ap₂ _+_ (sum-at f n a (h a (inl refl))) (sum-at f n b (h b (inr refl)))
+    sum-add (λ u. at u (f u) a) (λ u. at u (f u) b) n
+    ∙ ap₂ _+_ (sum-at f n a (h a (inl refl))) (sum-at f n b (h b (inr refl)))
 
 module _ (last : ℕ) (kids : ℕ → Kids) (rooted : Rooted last kids) where
   -- Each node once: a sum over all nodes but the root is a sum over all children.
@@ -107,7 +112,8 @@ unfolding has
 has-true u tip h = absurd h
 has-true u (two a b) (inl e) = pick-true true (eqb u b) (eq-eqb u a e)
 has-true u (two a b) (inr e) =
-    by-eq u a (λ p. pick-true true (eqb u b) (eq-eqb u a p)) (λ n. pick-false true (eqb u b) (ne-eqb u a n) ∙ eq-eqb u b e)
+    by-eq u a (λ p. pick-true true (eqb u b) (eq-eqb u a p))
+    (λ n. pick-false true (eqb u b) (ne-eqb u a n) ∙ eq-eqb u b e)
 
 has-false : (u : ℕ) (k : Kids) → (Has u k → ⊥) → has u k ≡ false
 unfolding has
@@ -124,15 +130,18 @@ unfolding parent
 parent-suc kids n u = refl
 
 -- where some node below n has u as a child, the parent found is such a node
-parent-found : (kids : ℕ → Kids) (n u p : ℕ) → p < n → Has u (kids p) → (parent kids n u < n) × Has u (kids (parent kids n u))
+parent-found : (kids : ℕ → Kids) (n u p : ℕ) → p < n → Has u (kids p)
+    → (parent kids n u < n) × Has u (kids (parent kids n u))
 parent-found kids zero u p h c = absurd (not-suc-le-zero h)
 parent-found kids (suc n) u p h c =
     has-dec u (kids n)
-    (λ y. let e : parent kids (suc n) u ≡ n = parent-suc kids n u ∙ pick-true n (parent kids n u) (has-true u (kids n) y) in
+    (λ y. let e : parent kids (suc n) u ≡ n =
+    parent-suc kids n u ∙ pick-true n (parent kids n u) (has-true u (kids n) y) in
     (omega arith, subst (λ q. Has u (kids q)) (sym e) y))
     (λ no-child. by-eq p n (λ e. absurd (no-child (subst (λ q. Has u (kids q)) e c)))
     (λ ne. let rest = parent-found kids n u p (omega arith) c in
-    let e : parent kids (suc n) u ≡ parent kids n u = parent-suc kids n u ∙ pick-false n (parent kids n u) (has-false u (kids n) no-child) in
+    let e : parent kids (suc n) u ≡ parent kids n u =
+    parent-suc kids n u ∙ pick-false n (parent kids n u) (has-false u (kids n) no-child) in
     let b = rest .0 in
     (omega arith, subst (λ q. Has u (kids q)) (sym e) (rest .1))))
 
@@ -152,9 +161,11 @@ module _ (last : ℕ) (kids : ℕ → Kids) (rooted : Rooted last kids) where
       let b = found .0 in
       parent-unique last kids rooted (parent kids (suc last) u) p u (omega arith) h (found .1) c
 
-module _ {ℓ} {A : Type ℓ} (last : ℕ) (kids : ℕ → Kids) (rooted : Rooted last kids) (own : ℕ → A) (join : A → A → A) where
+module _ {ℓ} {A : Type ℓ} (last : ℕ) (kids : ℕ → Kids) (rooted : Rooted last kids) (own : ℕ → A)
+    (join : A → A → A) where
   -- levels enough are enough
-  ascend-levels : (v : ℕ) → v ≤ last → (m n : ℕ) → v < m → v < n → ascendIn kids own join m v ≡ ascendIn kids own join n v
+  ascend-levels : (v : ℕ) → v ≤ last → (m n : ℕ) → v < m → v < n
+      → ascendIn kids own join m v ≡ ascendIn kids own join n v
   unfolding ascendIn
   ascend-levels = strong _ go
     where
@@ -164,7 +175,8 @@ module _ {ℓ} {A : Type ℓ} (last : ℕ) (kids : ℕ → Kids) (rooted : Roote
       at-kids v m n (two a b) h = ap₂ join (h a (inl refl)) (h b (inr refl))
 
       go : (v : ℕ)
-          → ((u : ℕ) → u < v → u ≤ last → (m n : ℕ) → u < m → u < n → ascendIn kids own join m u ≡ ascendIn kids own join n u)
+          → ((u : ℕ) → u < v → u ≤ last → (m n : ℕ) → u < m → u < n
+          → ascendIn kids own join m u ≡ ascendIn kids own join n u)
           → v ≤ last → (m n : ℕ) → v < m → v < n → ascendIn kids own join m v ≡ ascendIn kids own join n v
       go v ih h zero n hm hn = absurd (not-suc-le-zero hm)
       go v ih h (suc m) zero hm hn = absurd (not-suc-le-zero hn)
@@ -178,7 +190,8 @@ module _ {ℓ} {A : Type ℓ} (last : ℕ) (kids : ℕ → Kids) (rooted : Roote
   ascend-step v h = at-kids (kids v) (λ u c. rooted .below h c)
     where
       at-kids : (k : Kids) → ((u : ℕ) → Has u k → u < v)
-          → merge k (own v) join (ascendIn kids own join v) ≡ merge k (own v) join (λ u. ascendIn kids own join (suc u) u)
+          → merge k (own v) join (ascendIn kids own join v)
+          ≡ merge k (own v) join (λ u. ascendIn kids own join (suc u) u)
       at-kids tip b = refl
       at-kids (two a c) b =
           let ba = b a (inl refl) in

@@ -33,7 +33,8 @@ child-same P pos r q h w =
     (λ y hy. some-same _ _ (P .states)
     (λ x hx. ap (both (holds w x)) (ap₂ eqb (ap (plus (P .cost x y)) (h y hy)) (up-same P pos r q h x))))
 
-module _ (P : Column) (tree : Rooted (P .last) (P .kids)) (pos : 0 < P .states) (R : ℕ → ℕ → ℕ) (rows : IsRows P R) where
+module _ (P : Column) (tree : Rooted (P .last) (P .kids)) (pos : 0 < P .states) (R : ℕ → ℕ → ℕ)
+    (rows : IsRows P R) where
   rows-are : (u y : ℕ) → u < P .last → y < P .states → R u y ≡ row P u y
   rows-are u y hu hy = rows-unique P tree pos R (row P) rows (row-rows P tree) u y (omega arith) hy
 

@@ -1,5 +1,5 @@
--- The paper's worked examples 1 to 8 as a table: each a tree table, costs, cells and handed entries, with what it claims
--- of one column.
+-- The paper's worked examples 1 to 8 as a table: each a tree table, costs, cells and handed entries, with what it
+-- claims of one column.
 -- Assumes nothing.
 use mathlib.Core.Bool.{Bool, true}
 use mathlib.Core.List.{List, [], _∷_}
@@ -160,7 +160,7 @@ example1 =
       claims = scores 0 ∷ setOf 0 10 ∷ labels (1 ∷ []) ∷ [];
     }
 
--- 2. The two columns of the report: scores 1 and 1, labels AAAGA and CTTTT; four and five nodes have a set of one state.
+-- 2. The report's two columns: scores 1 and 1, labels AAAGA and CTTTT; four and five nodes have a set of one state.
 abbrev example2a : Example
 example2a =
     report 0
@@ -187,7 +187,7 @@ example2b =
     ∷ changes 1
     ∷ [])
 
--- 3. (((c,g),a),b); with C, G, A, A: score 2. The inner node over c and g has preliminary set CG, final set ACG, label A.
+-- 3. (((c,g),a),b); with C, G, A, A: score 2. The inner node over c and g has preliminary set CG, final ACG, label A.
 abbrev example3 : Example
 example3 =
     record {

@@ -11,8 +11,8 @@ KeepsEntries n node v (leaf k r) = (r < tips k node n) × (rowUses k node v r �
 KeepsEntries n node v (inner a b) =
     (a < v) × (b < v) × (a ≡ b → ⊥) × (childUses node v a ≡ 0) × (childUses node v b ≡ 0)
 
--- Node v of n keeps the rules: its entries do, and it is the last or some node names it as a child. So a second use of a
--- child or a row is the higher user's fault, and the entries of a node at fault count as uses.
+-- Node v of n keeps the rules: its entries do, and it is the last or some node names it as a child. So a second use of
+-- a child or a row is the higher user's fault, and the entries of a node at fault count as uses.
 pub record Keeps (n : ℕ) (node : ℕ → Node) (v : ℕ) : Type 0 where
   pub entries : KeepsEntries n node v (node v)
   pub used : suc v < n → 1 ≤ childUses node n v

@@ -1,4 +1,4 @@
--- The least value of a function over the numbers below a bound, where it is reached, and the rule that picks among ties.
+-- The least value of a function over the numbers below a bound, where it is reached, and the rule among ties.
 -- Assumes nothing.
 use mathlib.Core.Path.{_≡_}
 use Prim.Native.Nat.{ℕ, zero, suc, _≤_, _<_}

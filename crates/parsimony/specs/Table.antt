@@ -27,7 +27,8 @@ leafAt e = pick (ltb e 32768) (leaf symbol e) (leaf handed (e - 32768))
 -- node v of the table: 65,535 in the left list marks a tip
 unfoldable pub nodeAt : List ℕ → List ℕ → ℕ → Node
 unfolding pick leafAt
-nodeAt left right v = pick (eqb (getD left v 0) 65535) (leafAt (getD right v 0)) (inner (getD left v 0) (getD right v 0))
+nodeAt left right v =
+    pick (eqb (getD left v 0) 65535) (leafAt (getD right v 0)) (inner (getD left v 0) (getD right v 0))
 
 -- the children of a node
 abbrev pub kidsOf : Node → Kids

@@ -135,7 +135,8 @@ word-room word n room fits enough =
     let long = word-length word n in let digits = number-length fits in omega arith
 
 -- and for a line end after them
-pub number-room : (word : List ℕ) (n room : ℕ) → Fits w64 n → length word + 21 ≤ room → length (numberLine word n) ≤ room
+pub number-room : (word : List ℕ) (n room : ℕ) → Fits w64 n → length word + 21 ≤ room
+    → length (numberLine word n) ≤ room
 unfolding numberLine
 number-room word n room fits enough =
     let long = word-length word n in

@@ -1,4 +1,4 @@
-// The root's row in a row room: where it stands, its least entry, and the states and the sets of all nodes from it down.
+// The root's row in a row room: where it stands, its least entry, and the states and sets of all nodes from it down.
 ghost use mathlib.Core.Path.{_≡_};
 ghost use Prim.Native.Nat.{ℕ, _+_, _*_, _-_, _<_, _≤_};
 ghost use lib.ListN.{length};

@@ -2,8 +2,7 @@
 -- Assumes nothing.
 use mathlib.Core.List.{List}
 use mathlib.Core.Path.{_≡_, refl, ap, ap₂, sym, _∙_, subst}
-use Prim.Native.Nat.{ℕ, zero, suc, _+_, _*_, _/_, _%_, _<_}
-use native.Mathlib.Nat.{div-add-mod', div-lt-iff-lt-mul, mod-lt, mul-zero}
+use Prim.Native.Nat.{ℕ, zero, suc, _*_, _<_}
 use native.Mathlib.Omega.{arith}
 use lib.ListN.{length, getD}
 use lib.Seq.{ext-getD}
@@ -11,6 +10,7 @@ use Rattle.parsimony.specs.Barred.{barred}
 use Rattle.parsimony.specs.Column.{Column}
 use Rattle.parsimony.specs.Fault.{LowestFault}
 use Rattle.parsimony.specs.Table.{nodeAt}
+use Rattle.parsimony.proofs.FilledLaws.{place-split}
 use Rattle.parsimony.proofs.Order.{by-lt, by-eq}
 use Rattle.parsimony.proofs.Scoring.{score-unique}
 use Rattle.parsimony.proofs.ShapeLaws.{fault-unique}
@@ -122,21 +122,14 @@ pub listed-same : {n : ℕ} {right : ℕ → ℕ → Type 0} {before l m : List 
     → Listed n right before m → ((i v w : ℕ) → i < n → right i v → right i w → v ≡ w) → l ≡ m
 listed-same f g one = kept-same (f .kept) (g .kept) (λ i h. one i _ _ h (f .each i h) (g .each i h))
 
--- a place in n rows of s is one of a row
-row-place : (n s i : ℕ) → i < n * s → (v : ℕ) × (x : ℕ) × (v < n) × (x < s) × (v * s + x ≡ i)
-row-place n zero i h = absurd (let z = mul-zero n in omega arith)
-row-place n (suc s) i h =
-    let pos : 0 < suc s = omega arith in
-    (i / suc s, i % suc s, div-lt-iff-lt-mul pos .1 h, mod-lt i pos, div-add-mod' i (suc s))
-
 -- two row rooms with the same rows are the same
 pub room-same : {R : ℕ → ℕ → ℕ} {n s : ℕ} {before l m : List ℕ} → RowRoom R n s before l → RowRoom R n s before m
     → l ≡ m
 room-same {R} {n} {s} {before} {l} {m} f g =
     ext-getD 0 l m (f .long ∙ sym (g .long))
     (λ i h. by-lt i (n * s)
-    (λ low. let (v, x, hv, hx, e) = row-place n s i low in
-    subst (λ k. getD l k 0 ≡ getD m k 0) e (f .holds v x hv hx ∙ sym (g .holds v x hv hx)))
+    (λ low. let (v, x, hv, hx, e) = place-split n s i low in
+    subst (λ k. getD l k 0 ≡ getD m k 0) (sym e) (f .holds v x hv hx ∙ sym (g .holds v x hv hx)))
     (λ over. f .over i over ∙ sym (g .over i over)))
 
 -- the rows that scoring leaves are those of the last column, or as they were

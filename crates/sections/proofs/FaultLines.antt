@@ -86,7 +86,8 @@ row-on : (c : ℕ) (sheet earlier : List ℕ) (at line : ℕ) → OnLine line (r
 unfolding rowJudge rowOf rowTo
 row-on c sheet earlier at line =
     let bad : Item ℕ = fault (Sheet line) in
-    let symbols : ℕ → Item ℕ = λ end. pick (every isSymbol (textOf sheet at end)) (item at (end + 1)) (fault (Symbol line)) in
+    let symbols : ℕ → Item ℕ = λ end.
+    pick (every isSymbol (textOf sheet at end)) (item at (end + 1)) (fault (Symbol line)) in
     all-place (OnLine line) (lineOf sheet at) bad (λ end. pick (eqb (end - at) c) (symbols end) bad)
     (own-fault line (Sheet line) refl)
     (λ end. all-pick (OnLine line) (eqb (end - at) c) (symbols end) bad
@@ -109,19 +110,25 @@ cost-on sheet earlier at line =
     (λ a i. all-number (OnLine line) (fieldOf 999 32 sheet i) bad (third a) own
     (λ b j. all-number (OnLine line) (fieldOf 999 32 sheet j) bad (fourth a b) own
     (λ c k. all-number (OnLine line) (fieldOf 999 10 sheet k) bad (last a b c) own
-    (λ d next. all-pick (OnLine line) (test a b c d) (item (row a b c d) next) bad (own-item line (row a b c d) next) own))))
+    (λ d next. all-pick (OnLine line) (test a b c d) (item (row a b c d) next) bad
+    (own-item line (row a b c d) next) own))))
 
 -- a section's fault is on one of its lines
-section-on : {A : Type 0} (judge : List A → ℕ → ℕ → Item A) → ((before : List A) (at line : ℕ) → OnLine line (judge before at line))
-    → (n at line : ℕ) (before : List A) (f : Fault) → section judge n at line before .part ≡ Wrong f → faultLine f < line + n
+section-on : {A : Type 0} (judge : List A → ℕ → ℕ → Item A)
+    → ((before : List A) (at line : ℕ) → OnLine line (judge before at line))
+    → (n at line : ℕ) (before : List A) (f : Fault) → section judge n at line before .part ≡ Wrong f
+    → faultLine f < line + n
 unfolding section follow
 section-on judge on zero at line before f h = absurd (let z : _≡_ {A = ℕ} 0 1 = cc in omega arith)
 section-on {A} judge on (suc n) at line before f h =
-    go (judge before at line) (on before at line .on) (λ items next g. section-on judge on n next (line + 1) items f g) h
+    go (judge before at line) (on before at line .on)
+    (λ items next g. section-on judge on n next (line + 1) items f g) h
   where
     go : (x : Item A) → On line x
-        → ((items : List A) (next : ℕ) → section judge n next (line + 1) items .part ≡ Wrong f → faultLine f < line + 1 + n)
-        → follow x before (λ items next. section judge n next (line + 1) items) .part ≡ Wrong f → faultLine f < line + suc n
+        → ((items : List A) (next : ℕ) → section judge n next (line + 1) items .part ≡ Wrong f
+        → faultLine f < line + 1 + n)
+        → follow x before (λ items next. section judge n next (line + 1) items) .part ≡ Wrong f
+        → faultLine f < line + suc n
     go (item a next) o rest g = let r = rest (before ++ a ∷ []) next g in omega arith
     go (fault e) o rest g = let same : e ≡ f = cc in let here = ap faultLine same in omega arith
 
@@ -181,15 +188,18 @@ module _ (sheet : List ℕ) (t : ℕ) (few : t ≤ 512) where
   -- the count line of the costs, and the lines of the table
   cost-count-on : (at line : ℕ) → CountOn line (costCount sheet at line)
   unfolding costCount onCount
-  cost-count-on at line = go (countOf (bytes "costs ") 0 4 sheet at line) (count-on (bytes "costs ") 0 4 sheet at line .on)
+  cost-count-on at line =
+      go (countOf (bytes "costs ") 0 4 sheet at line) (count-on (bytes "costs ") 0 4 sheet at line .on)
     where
       go : (c : Count) → CountOn line c
           → CountOn line (onCount c Miscounted
           (λ k next. pick (eqb k 0) (Counted k next) (pick (eqb k 4) (Counted k next) (Miscounted (Sheet line)))))
       go (Counted k next) o =
-          all-pick (CountLine line) (eqb k 0) (Counted k next) (pick (eqb k 4) (Counted k next) (Miscounted (Sheet line)))
+          all-pick (CountLine line) (eqb k 0) (Counted k next)
+          (pick (eqb k 4) (Counted k next) (Miscounted (Sheet line)))
           (counted-line line k next)
-          (all-pick (CountLine line) (eqb k 4) (Counted k next) (Miscounted (Sheet line)) (counted-line line k next) (own-line line)) .on
+          (all-pick (CountLine line) (eqb k 4) (Counted k next) (Miscounted (Sheet line))
+          (counted-line line k next) (own-line line)) .on
       go (Miscounted f) o = o
 
   table-on : (k next line : ℕ) (f : Fault) → costTable sheet k next line .part ≡ Wrong f → faultLine f < line + 4
@@ -205,10 +215,12 @@ module _ (sheet : List ℕ) (t : ℕ) (few : t ≤ 512) where
       (λ k next f counted h. let low = table-on k next (t + t + 3 + 1) f h in omega arith)
 
   -- the count of trees
-  tree-on : (costs : List (List ℕ)) (c cells k at : ℕ) → k ≤ 4 → ReadingOn 1032 (treeFrom sheet costs t c cells k at .reading)
+  tree-on : (costs : List (List ℕ)) (c cells k at : ℕ) → k ≤ 4
+      → ReadingOn 1032 (treeFrom sheet costs t c cells k at .reading)
   unfolding treeFrom onCount refused
   tree-on costs c cells k at most =
-      go (countOf (bytes "tree ") 1 1 sheet at (t + t + 4 + k)) (count-on (bytes "tree ") 1 1 sheet at (t + t + 4 + k) .on)
+      go (countOf (bytes "tree ") 1 1 sheet at (t + t + 4 + k))
+      (count-on (bytes "tree ") 1 1 sheet at (t + t + 4 + k) .on)
     where
       go : (p : Count) → CountOn (t + t + 4 + k) p → ReadingOn 1032 (onCount p (refused costs) (λ one tree. record {
         reading = Sound (record { tips = t; columns = c; cells = cells; tree = tree; line = t + t + 5 + k });
@@ -227,13 +239,16 @@ module _ (sheet : List ℕ) (t : ℕ) (few : t ≤ 512) where
       go : (p : Count) → costsOf sheet at (t + t + 3) .count ≡ p → CountOn 1031 p
           → ReadingOn 1032 (onCount p (refused items) (treeFrom sheet items t c cells) .reading)
       go (Counted k next) e o =
-          tree-on items c cells k next (⊎-elim (λ z. omega arith) (λ z. omega arith) (costs-count sheet at (t + t + 3) k next e))
+          tree-on items c cells k next
+          (⊎-elim (λ z. omega arith) (λ z. omega arith) (costs-count sheet at (t + t + 3) k next e))
       go (Miscounted f) e o = omega arith
 
   -- the columns
   matrix-on : (at : ℕ) (f : Fault) → matrixOf t sheet at (t + 2) ≡ NoCells f → faultLine f ≤ 1032
   unfolding matrixOf onCount onPart
-  matrix-on at f h = by-count (countOf (bytes "columns ") 0 65535 sheet at (t + 2)) (count-on (bytes "columns ") 0 65535 sheet at (t + 2) .on) h
+  matrix-on at f h =
+      by-count (countOf (bytes "columns ") 0 65535 sheet at (t + 2))
+      (count-on (bytes "columns ") 0 65535 sheet at (t + 2) .on) h
     where
       by-part : (c from : ℕ) (p : Part) → section (rowJudge c sheet) t from (t + 2 + 1) [] .part ≡ p
           → onPart p NoCells (Cells c from) ≡ NoCells f → faultLine f ≤ 1032
@@ -245,7 +260,9 @@ module _ (sheet : List ℕ) (t : ℕ) (few : t ≤ 512) where
           omega arith
 
       by-count : (p : Count) → CountOn (t + 2) p
-          → onCount p NoCells (λ c cells. onPart (section (rowJudge c sheet) t cells (t + 2 + 1) [] .part) NoCells (Cells c cells)) ≡ NoCells f
+          → onCount p NoCells
+          (λ c cells. onPart (section (rowJudge c sheet) t cells (t + 2 + 1) [] .part) NoCells (Cells c cells))
+          ≡ NoCells f
           → faultLine f ≤ 1032
       by-count (Counted c from) o g = by-part c from (section (rowJudge c sheet) t from (t + 2 + 1) [] .part) refl g
       by-count (Miscounted w) o g = let same : w ≡ f = cc in let here = ap faultLine same in omega arith
@@ -254,7 +271,8 @@ module _ (sheet : List ℕ) (t : ℕ) (few : t ≤ 512) where
   unfolding columnsFrom onMatrix refused
   columns-on at = go (matrixOf t sheet at (t + 2)) refl
     where
-      go : (m : Matrix) → matrixOf t sheet at (t + 2) ≡ m → ReadingOn 1032 (onMatrix m (refused []) (costsFrom sheet t) .reading)
+      go : (m : Matrix) → matrixOf t sheet at (t + 2) ≡ m
+          → ReadingOn 1032 (onMatrix m (refused []) (costsFrom sheet t) .reading)
       go (Cells c cells next) e = costs-from-on c cells next
       go (NoCells f) e = matrix-on at f e
 

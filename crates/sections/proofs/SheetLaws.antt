@@ -35,7 +35,8 @@ same-sound : {s r : Sections} → Sound s ≡ Sound r → s ≡ r
 same-sound e = cc
 
 module _ (sheet : List ℕ) (s : Sections) where
-  tree-read : (costs : List (List ℕ)) (t c cells k at next : ℕ) → k ≤ 4 → CellsRead sheet t c cells next → TableRules costs
+  tree-read : (costs : List (List ℕ)) (t c cells k at next : ℕ) → k ≤ 4 → CellsRead sheet t c cells next
+      → TableRules costs
       → treeFrom sheet costs t c cells k at .reading ≡ Sound s
       → RestRead sheet t (treeFrom sheet costs t c cells k at .costs) s
   unfolding treeFrom onCount refused
@@ -78,7 +79,9 @@ module _ (sheet : List ℕ) (s : Sections) where
           → RestRead sheet t (onCount p (refused items) (treeFrom sheet items t c cells) .costs) s
       by-count (Miscounted f) r h = not-sound h
       by-count (Counted k next) r h =
-          tree-read items t c cells k next at (⊎-elim (λ z. omega arith) (λ z. omega arith) (costs-count sheet at (t + t + 3) k next r)) read (costs-rules sheet at (t + t + 3) k next r) h
+          tree-read items t c cells k next at
+          (⊎-elim (λ z. omega arith) (λ z. omega arith) (costs-count sheet at (t + t + 3) k next r)) read
+          (costs-rules sheet at (t + t + 3) k next r) h
 
   columns-read : (t at : ℕ) → columnsFrom sheet t at .reading ≡ Sound s
       → RestRead sheet t (columnsFrom sheet t at .costs) s

@@ -45,7 +45,8 @@ fn read_tree_line(
     left: &mut [u16; MOST_NODES],
     right: &mut [u16; MOST_NODES],
 ) -> Read
-    requires { ⌜ (s .tips ≤ 512) × (s .tips ≤ length (now names)) × (length (now left) ≡ 1023) × (length (now right) ≡ 1023) ⌝ }
+    requires { ⌜ (s .tips ≤ 512) × (s .tips ≤ length (now names)) × (length (now left) ≡ 1023)
+        × (length (now right) ≡ 1023) ⌝ }
     requires { ⌜ s .line ≤ 65535 ⌝ }
     ensures { λ r. ⌜ GivesTree (now (sheet .entry)) (now (names .entry)) s r
         (now (left .entry)) (now (right .entry)) (now (left .exit)) (now (right .exit)) ⌝ }

@@ -3,8 +3,8 @@
 use mathlib.Core.Bool.{Bool, true, false}
 use Rattle.parsimony.specs.Table.{Kind, symbol, handed, leaf, inner}
 use Rattle.parsimony.specs.Table as Table
-use Rattle.trees.specs.declared.shape.Node.{Node}
-use Rattle.trees.specs.declared.shape.Node.the-variants.{Symbol, Handed, Inner}
+use Rattle.trees.specs.declared.nodes.Node.{Node}
+use Rattle.trees.specs.declared.nodes.Node.the-variants.{Symbol, Handed, Inner}
 
 -- a symbol tip and a handed tip with the number of its row, an inner node with its children
 abbrev pub nodeOf : Node → Table.Node

@@ -440,7 +440,8 @@ read-pair-add-t17 t c = record {
       .before .before .before .before .read-tree .ensures) (c .before .before .before .before .before .before .before
       .before .before .before .before .before .before .before .before .before .before .comma .given .1)) _ _ _ _ _ _
       (gives-tree _ _ (c .before .before .before .before .before .before .before .before .before .before .read-tree2
-      .ensures) (c .before .before .before .before .before .before .before .before .close .given .1))) .3 in omega arith;
+      .ensures) (c .before .before .before .before .before .before .before .before .close .given .1))) .3 in
+      omega arith;
 }
 
 read-pair-returns-6 : (t : ℕ) → read-pair-lts.Need-returns-6 (

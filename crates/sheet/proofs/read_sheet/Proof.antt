@@ -47,7 +47,8 @@ read-tree-line-requires c κs = (
         _ (let few = sections-few _ _ _ _ _ _ (c .before .before .before .before .before .before .before .before .before
         .read-sections .ensures) _ (c .before .before .before .before .before .s .given .1) in let long = c .before
         .before .before .before .before .before .before .before .before .before .before .before .before .before .before
-        .pre .0 .0 in let same = c .before .before .before .before .before .before .before .before .before .read-sections
+        .pre .0 .0 in let same = c .before .before .before .before .before .before .before .before .before
+        .read-sections
         .kept .1 .0 in omega arith),
     c .before .before .before .before .before .before .before .before .before .before
         .before .before .before .before .before .pre .1 .0,

@@ -20,7 +20,8 @@ put-byte-requires : tie.Need-put-byte-requires
 put-byte-requires c κs =
     let c1 = c .before .before .before in
     let start = c1 .before .before .before .before in
-    let word = word-room (start .args .word .now) (start .args .n) (length (start .args .word .now) + 20) (start .fits .n) (omega arith) in
+    let word = word-room (start .args .word .now) (start .args .n) (length (start .args .word .now) + 20)
+    (start .fits .n) (omega arith) in
     let long = put-long (c1 .put-word .ensures) in
     let end = c1 .put-word .ensures .end in
     omega (arith, word, start .pre)
@@ -34,7 +35,8 @@ returns c =
     let c1 = c .before .before .before .before .before .before in
     let start = c1 .before .before .before .before in
     starts (put-then (c1 .put-word .ensures) (c .before .before .put-byte .ensures))
-    (number-room (start .args .word .now) (start .args .n) (length (start .args .line .now)) (start .fits .n) (omega (arith, start .pre)))
+    (number-room (start .args .word .now) (start .args .n) (length (start .args .line .now)) (start .fits .n)
+    (omega (arith, start .pre)))
 
 pub number-line-spec : {M : Type 1} → statement M
 number-line-spec = tie.close (tie.spec put-word-requires put-byte-requires same-length returns)
