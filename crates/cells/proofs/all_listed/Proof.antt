@@ -27,9 +27,12 @@ is-listed-requires c κs = search needs
 
 returns : tie.Need-returns Inv-loop μ-loop
 returns c =
-    every-off _ _ _ _ (c .before .before .before .before .before .before .pre)
-    (c .before .before .before .loop-test .taken) (test-no (c .before .is-listed .ensures) (c .if1 .taken))
-    ∙ c .before .before .before .before .loop .inv
+    let c1 = c .before .before .before in
+    let c2 = c1 .before in
+    let start = c2 .before .before in
+    every-off _ _ _ _ (start .pre)
+    (c1 .loop-test .taken) (test-no (c .before .is-listed .ensures) (c .if1 .taken))
+    ∙ c2 .loop .inv
 
 add-i : tie.Need-add-i Inv-loop μ-loop
 add-i c = search needs
@@ -39,12 +42,17 @@ loop-less c = search needs
 
 loop-again : tie.Need-loop-again Inv-loop μ-loop
 loop-again c =
-    every-on _ _ _ _ (c .before .before .before .before .before .before .pre)
-    (c .before .before .before .loop-test .taken) (test-yes (c .before .is-listed .ensures) (c .if1 .left))
-    ∙ c .before .before .before .before .loop .inv
+    let c1 = c .before .before .before in
+    let c2 = c1 .before in
+    let start = c2 .before .before in
+    every-on _ _ _ _ (start .pre)
+    (c1 .loop-test .taken) (test-yes (c .before .is-listed .ensures) (c .if1 .left))
+    ∙ c2 .loop .inv
 
 returns-2 : tie.Need-returns-2 Inv-loop μ-loop
-returns-2 c = every-end _ _ _ _ (c .before .before .before .pre) (c .loop-test .left) ∙ c .before .loop .inv
+returns-2 c =
+    let start = c .before .before .before in
+    every-end _ _ _ _ (start .pre) (c .loop-test .left) ∙ c .before .loop .inv
 
 pub all-listed-spec : {M : Type 1} → statement M
 all-listed-spec =

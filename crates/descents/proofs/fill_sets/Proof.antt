@@ -27,10 +27,14 @@ abbrev μ-loop : tie.MeasureT-loop
 μ-loop left right s costs rows start sets₀ n last v₀ sets v = v
 
 sub-last : tie.Need-sub-last Inv-loop μ-loop
-sub-last c = let some = legal-some (c .before .before .before .before .before .pre .0) in omega arith
+sub-last c =
+    let start = c .before .before .before .before .before in
+    let some = legal-some (start .pre .0) in omega arith
 
 mul-sets : tie.Need-mul-sets Inv-loop μ-loop
-mul-sets c = omega (arith, c .before .before .before .before .before .pre .0 .size .most)
+mul-sets c =
+    let start = c .before .before .before .before .before in
+    omega (arith, start .pre .0 .size .most)
 
 slice-write-sets : tie.Need-slice-write-sets Inv-loop μ-loop
 slice-write-sets c =

@@ -29,7 +29,9 @@ abbrev μ-loop : tie.MeasureT-loop
 μ-loop left right s costs rows start states₀ n last v₀ states v = v
 
 sub-last : tie.Need-sub-last Inv-loop μ-loop
-sub-last c = let some = legal-some (c .before .before .before .before .before .pre .0) in omega arith
+sub-last c =
+    let start = c .before .before .before .before .before in
+    let some = legal-some (start .pre .0) in omega arith
 
 narrow-requires : tie.Need-narrow-requires Inv-loop μ-loop
 narrow-requires c κs =

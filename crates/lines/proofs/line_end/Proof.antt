@@ -24,7 +24,10 @@ shared-slice-read-if1 : tie.Need-shared-slice-read-if1 Inv-loop μ-loop
 shared-slice-read-if1 c = search needs
 
 returns : tie.Need-returns Inv-loop μ-loop
-returns c = line-stop _ _ (c .before .before .loop-test .taken) (c .if1 .taken) ∙ c .before .before .before .loop .inv
+returns c =
+    let c1 = c .before .before in
+    let c2 = c1 .before in
+    line-stop _ _ (c1 .loop-test .taken) (c .if1 .taken) ∙ c2 .loop .inv
 
 shared-slice-read-byte-within : tie.Need-shared-slice-read-byte-within Inv-loop μ-loop
 shared-slice-read-byte-within c = search needs
@@ -34,9 +37,12 @@ byte-within-requires c κs = search needs
 
 returns-2 : tie.Need-returns-2 Inv-loop μ-loop
 returns-2 c =
-    line-bad _ _ (c .before .before .before .before .before .loop-test .taken) (c .before .before .before .if1 .left)
+    let c1 = c .before .before .before in
+    let c2 = c1 .before .before in
+    let c3 = c2 .before in
+    line-bad _ _ (c2 .loop-test .taken) (c1 .if1 .left)
     (test-no (c .before .byte-within .ensures) (c .if2 .taken))
-    ∙ c .before .before .before .before .before .before .loop .inv
+    ∙ c3 .loop .inv
 
 add-i : tie.Need-add-i Inv-loop μ-loop
 add-i c = search needs
@@ -46,9 +52,12 @@ loop-less c = search needs
 
 loop-again : tie.Need-loop-again Inv-loop μ-loop
 loop-again c =
-    line-on _ _ (c .before .before .before .before .before .loop-test .taken) (c .before .before .before .if1 .left)
+    let c1 = c .before .before .before in
+    let c2 = c1 .before .before in
+    let c3 = c2 .before in
+    line-on _ _ (c2 .loop-test .taken) (c1 .if1 .left)
     (test-yes (c .before .byte-within .ensures) (c .if2 .left))
-    ∙ c .before .before .before .before .before .before .loop .inv
+    ∙ c3 .loop .inv
 
 returns-3 : tie.Need-returns-3 Inv-loop μ-loop
 returns-3 c = line-past _ _ (c .loop-test .left) ∙ c .before .loop .inv

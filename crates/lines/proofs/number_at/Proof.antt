@@ -28,7 +28,9 @@ byte-within-requires c κs = search needs
 
 returns-3 : tie.Need-returns-3
 returns-3 c =
-    number-none _ _ _ (c .before .before .before .before .before .if1 .left) (c .before .before .before .if2 .left)
+    let c1 = c .before .before .before in
+    let c2 = c1 .before .before in
+    number-none _ _ _ (c2 .if1 .left) (c1 .if2 .left)
     (test-no (c .before .byte-within .ensures) (c .if3 .taken))
 
 add-more-digits : tie.Need-add-more-digits
@@ -42,17 +44,23 @@ digit-value-requires c κs = search needs
 
 more-digits-requires : tie.Need-more-digits-requires
 more-digits-requires c κs =
-    let at-byte-within = c .before .before .before in
+    let c1 = c .before .before in
+    let c2 = c1 .before in
+    let at-byte-within = c2 in
     let at-pre = at-byte-within .before .before .before .before .before .before in
-    let w = within-told _ _ _ (test-yes (at-byte-within .byte-within .ensures) (c .before .before .if3 .left)) in
+    let w = within-told _ _ _ (test-yes (at-byte-within .byte-within .ensures) (c1 .if3 .left)) in
     (omega arith, at-pre .pre)
 
 returns-4 : tie.Need-returns-4
 returns-4 c =
+    let c1 = c .before .before .before in
+    let c2 = c1 .before in
+    let c3 = c2 .before .before in
+    let c4 = c3 .before .before in
     c .more-digits .ensures
-    ∙ number-more _ _ _ _ (c .before .before .before .before .before .before .before .before .if1 .left)
-    (c .before .before .before .before .before .before .if2 .left)
-    (test-yes (c .before .before .before .before .byte-within .ensures) (c .before .before .before .if3 .left))
+    ∙ number-more _ _ _ _ (c4 .if1 .left)
+    (c3 .if2 .left)
+    (test-yes (c2 .byte-within .ensures) (c1 .if3 .left))
     (c .before .digit-value .ensures)
 
 pub number-at-spec : {M : Type 1} → statement M

@@ -82,10 +82,11 @@ read-pair-add-read-tree : (t : ℕ) → read-pair-lts.Need-add-read-tree (
   put-node-reads.Asked,
   put-node-reads.Learnt,
 ) (read-pair-at t) read-pair.Post
-read-pair-add-read-tree t c = record {
-  fits = lt-of-le-of-lt (add-one-le (c .before .before .before .pre .1 .1)) (c
-      .before .before .before .good .0 .0);
-}
+read-pair-add-read-tree t c =
+    let start = c .before .before .before in
+    record {
+      fits = lt-of-le-of-lt (add-one-le (start .pre .1 .1)) (start .good .0 .0);
+    }
 
 read-pair-sub-read-tree : (t : ℕ) → read-pair-lts.Need-sub-read-tree (
   read-tree-below t,
@@ -109,11 +110,14 @@ read-pair-read-tree-requires : (t : ℕ) → read-pair-lts.Need-read-tree-requir
   put-node-reads.Asked,
   put-node-reads.Learnt,
 ) (read-pair-at t) read-pair.Post
-read-pair-read-tree-requires t c κs = (
-  let e = c .before .before .before .before .before .before .pre .0 in let ne =
-      c .before .before .before .if1 .left in omega arith,
-  (c .before .before .before .before .before .before .pre .1 .0),
-)
+read-pair-read-tree-requires t c κs =
+    let c1 = c .before .before .before in
+    let start = c1 .before .before .before in (
+      let e = start .pre .0 in
+          let ne =
+          c1 .if1 .left in omega arith,
+      (start .pre .1 .0),
+    )
 
 read-pair-enum-known-comma : (t : ℕ) → read-pair-lts.Need-enum-known-comma (
   read-tree-below t,
@@ -149,10 +153,13 @@ read-pair-returns-2 : (t : ℕ) → read-pair-lts.Need-returns-2 (
   put-node-reads.Asked,
   put-node-reads.Learnt,
 ) (read-pair-at t) read-pair.Post
-read-pair-returns-2 t c = record {
-  gives = pair-first _ _ _ _ _ _ (c .before .before .before .before .before .before
-      .if1 .left) (gives-none (c .before .before .read-tree .ensures) (c .enum-told .given .1));
-}
+read-pair-returns-2 t c =
+    let c1 = c .before .before in
+    let c2 = c1 .before .before .before .before in
+    record {
+      gives = pair-first _ _ _ _ _ _ (c2
+          .if1 .left) (gives-none (c1 .read-tree .ensures) (c .enum-told .given .1));
+    }
 
 read-pair-byte-is-requires : (t : ℕ) → read-pair-lts.Need-byte-is-requires (
   read-tree-below t,
@@ -176,12 +183,15 @@ read-pair-returns-3 : (t : ℕ) → read-pair-lts.Need-returns-3 (
   put-node-reads.Asked,
   put-node-reads.Learnt,
 ) (read-pair-at t) read-pair.Post
-read-pair-returns-3 t c = record {
-  gives = pair-comma _ _ _ _ _ _ (c .before .before .before .before .before .before
-      .before .before .before .if1 .left) _ _ _ ((gives-tree _ _ (c .before .before .before .before .before .read-tree
-      .ensures) (c .before .before .before .comma .given .1)) .is) (test-no (c .before .byte-is .ensures) (c .if2
-      .taken));
-}
+read-pair-returns-3 t c =
+    let c1 = c .before .before .before in
+    let c2 = c1 .before .before in
+    let c3 = c2 .before .before .before .before in
+    record {
+      gives = pair-comma _ _ _ _ _ _ (c3 .if1 .left) _ _ _ ((gives-tree _ _ (c2 .read-tree
+          .ensures) (c1 .comma .given .1)) .is) (test-no (c .before .byte-is .ensures) (c .if2
+          .taken));
+    }
 
 read-pair-add-read-tree-2 : (t : ℕ) → read-pair-lts.Need-add-read-tree-2 (
   read-tree-below t,
@@ -193,12 +203,12 @@ read-pair-add-read-tree-2 : (t : ℕ) → read-pair-lts.Need-add-read-tree-2 (
   put-node-reads.Asked,
   put-node-reads.Learnt,
 ) (read-pair-at t) read-pair.Post
-read-pair-add-read-tree-2 t c = record {
-  fits = lt-of-le-of-lt (add-one-le (byte-inside (c .before .before .before
-      .before .before .before .before .before .before .before .before .before .args .sheet .now) _ 44 (omega arith)
-      (test-yes (c .before .byte-is .ensures) (c .if2 .left)))) (c .before .before .before .before .before .before
-      .before .before .before .before .before .before .good .0 .0);
-}
+read-pair-add-read-tree-2 t c =
+    let start = c .before .before .before .before .before .before .before .before .before .before .before .before in
+    record {
+      fits = lt-of-le-of-lt (add-one-le (byte-inside (start .args .sheet .now) _ 44 (omega arith)
+          (test-yes (c .before .byte-is .ensures) (c .if2 .left)))) (start .good .0 .0);
+    }
 
 read-pair-sub-read-tree-2 : (t : ℕ) → read-pair-lts.Need-sub-read-tree-2 (
   read-tree-below t,
@@ -222,15 +232,16 @@ read-pair-read-tree-requires-2 : (t : ℕ) → read-pair-lts.Need-read-tree-requ
   put-node-reads.Asked,
   put-node-reads.Learnt,
 ) (read-pair-at t) read-pair.Post
-read-pair-read-tree-requires-2 t c κs = (
-  let e = c .before .before .before .before .before .before .before .before
-      .before .before .before .before .before .before .before .pre .0 in let ne = c .before .before .before .before
-      .before .before .before .before .before .before .before .before .if1 .left in omega arith,
-  second-ready _ _ _ _ _
-      _ _ _ _ (c .before .before .before .before .before .before .before .before .before .before .before .before
-      .before .before .before .pre .1 .0) _ _ _ _ _ (gives-tree _ _ (c .before .before .before .before .before .before
-      .before .before .read-tree .ensures) (c .before .before .before .before .before .before .comma .given .1)),
-)
+read-pair-read-tree-requires-2 t c κs =
+    let c1 = c .before .before .before .before .before .before in
+    let c2 = c1 .before .before in
+    let c3 = c2 .before .before .before .before in
+    let start = c3 .before .before .before in (
+      let e = start .pre .0 in
+          let ne = c3 .if1 .left in omega arith,
+      second-ready _ _ _ _ _
+          _ _ _ _ (start .pre .1 .0) _ _ _ _ _ (gives-tree _ _ (c2 .read-tree .ensures) (c1 .comma .given .1)),
+    )
 
 read-pair-enum-known-close : (t : ℕ) → read-pair-lts.Need-enum-known-close (
   read-tree-below t,
@@ -266,14 +277,19 @@ read-pair-returns-4 : (t : ℕ) → read-pair-lts.Need-returns-4 (
   put-node-reads.Asked,
   put-node-reads.Learnt,
 ) (read-pair-at t) read-pair.Post
-read-pair-returns-4 t c = record {
-  gives = pair-second _ _ _ _ _ _ (c .before .before .before .before .before .before
-      .before .before .before .before .before .before .before .before .before .if1 .left) _ _ _ ((gives-tree _ _ (c
-      .before .before .before .before .before .before .before .before .before .before .before .read-tree .ensures) (c
-      .before .before .before .before .before .before .before .before .before .comma .given .1)) .is) (test-yes (c
-      .before .before .before .before .before .before .before .byte-is .ensures) (c .before .before .before .before
-      .before .before .if2 .left)) (gives-none (c .before .before .read-tree2 .ensures) (c .enum-told2 .given .1));
-}
+read-pair-returns-4 t c =
+    let c1 = c .before .before in
+    let c2 = c1 .before .before .before .before in
+    let c3 = c2 .before in
+    let c4 = c3 .before .before in
+    let c5 = c4 .before .before in
+    let c6 = c5 .before .before .before .before in
+    record {
+      gives = pair-second _ _ _ _ _ _ (c6 .if1 .left) _ _ _
+          ((gives-tree _ _ (c5 .read-tree .ensures) (c4 .comma .given .1)) .is)
+          (test-yes (c3 .byte-is .ensures) (c2 .if2 .left))
+          (gives-none (c1 .read-tree2 .ensures) (c .enum-told2 .given .1));
+    }
 
 read-pair-byte-is-requires-2 : (t : ℕ) → read-pair-lts.Need-byte-is-requires-2 (
   read-tree-below t,
@@ -297,17 +313,21 @@ read-pair-returns-5 : (t : ℕ) → read-pair-lts.Need-returns-5 (
   put-node-reads.Asked,
   put-node-reads.Learnt,
 ) (read-pair-at t) read-pair.Post
-read-pair-returns-5 t c = record {
-  gives = pair-close _ _ _ _ _ _ (c .before .before .before .before .before .before
-      .before .before .before .before .before .before .before .before .before .before .before .before .if1 .left) _ _ _
-      ((gives-tree _ _ (c .before .before .before .before .before .before .before .before .before .before .before
-      .before .before .before .read-tree .ensures) (c .before .before .before .before .before .before .before .before
-      .before .before .before .before .comma .given .1)) .is) (test-yes (c .before .before .before .before .before
-      .before .before .before .before .before .byte-is .ensures) (c .before .before .before .before .before .before
-      .before .before .before .if2 .left)) _ _ _ ((gives-tree _ _ (c .before .before .before .before .before
-      .read-tree2 .ensures) (c .before .before .before .close .given .1)) .is) (test-no (c .before .byte-is2 .ensures)
-      (c .if3 .taken));
-}
+read-pair-returns-5 t c =
+    let c1 = c .before .before .before in
+    let c2 = c1 .before .before in
+    let c3 = c2 .before .before .before .before in
+    let c4 = c3 .before in
+    let c5 = c4 .before .before in
+    let c6 = c5 .before .before in
+    let c7 = c6 .before .before .before .before in
+    record {
+      gives = pair-close _ _ _ _ _ _ (c7 .if1 .left) _ _ _
+          ((gives-tree _ _ (c6 .read-tree .ensures) (c5 .comma .given .1)) .is)
+          (test-yes (c4 .byte-is .ensures) (c3 .if2 .left)) _ _ _ ((gives-tree _ _ (c2
+          .read-tree2 .ensures) (c1 .close .given .1)) .is) (test-no (c .before .byte-is2 .ensures)
+          (c .if3 .taken));
+    }
 
 read-pair-sub-narrow : (t : ℕ) → read-pair-lts.Need-sub-narrow (
   read-tree-below t,
@@ -319,13 +339,15 @@ read-pair-sub-narrow : (t : ℕ) → read-pair-lts.Need-sub-narrow (
   put-node-reads.Asked,
   put-node-reads.Learnt,
 ) (read-pair-at t) read-pair.Post
-read-pair-sub-narrow t c = (pair-room _ _ _ _ _ _ _ _ _ (c .before .before .before .before .before .before .before
-    .before .before .before .before .before .before .before .before .before .before .before .before .before .before
-    .before .before .pre .1 .0) _ _ _ _ _ (gives-tree _ _ (c .before .before .before .before .before .before .before
-    .before .before .before .before .before .before .before .before .before .read-tree .ensures) (c .before .before
-    .before .before .before .before .before .before .before .before .before .before .before .before .comma .given
-    .1)) _ _ _ _ _ _ (gives-tree _ _ (c .before .before .before .before .before .before .before .read-tree2 .ensures)
-    (c .before .before .before .before .before .close .given .1))) .0
+read-pair-sub-narrow t c =
+    let c1 = c .before .before .before .before .before in
+    let c2 = c1 .before .before in
+    let c3 = c2 .before .before .before .before .before .before .before in
+    let c4 = c3 .before .before in
+    let start = c4 .before .before .before .before .before .before .before in
+    (pair-room _ _ _ _ _ _ _ _ _ (start .pre .1 .0) _ _ _ _ _ (gives-tree _ _ (c4 .read-tree .ensures) (c3 .comma .given
+    .1)) _ _ _ _ _ _ (gives-tree _ _ (c2 .read-tree2 .ensures)
+    (c1 .close .given .1))) .0
 
 read-pair-narrow-requires : (t : ℕ) → read-pair-lts.Need-narrow-requires (
   read-tree-below t,
@@ -337,13 +359,15 @@ read-pair-narrow-requires : (t : ℕ) → read-pair-lts.Need-narrow-requires (
   put-node-reads.Asked,
   put-node-reads.Learnt,
 ) (read-pair-at t) read-pair.Post
-read-pair-narrow-requires t c κs = let r = (pair-room _ _ _ _ _ _ _ _ _ (c .before .before .before .before .before
-    .before .before .before .before .before .before .before .before .before .before .before .before .before .before
-    .before .before .before .before .pre .1 .0) _ _ _ _ _ (gives-tree _ _ (c .before .before .before .before .before
-    .before .before .before .before .before .before .before .before .before .before .before .read-tree .ensures) (c
-    .before .before .before .before .before .before .before .before .before .before .before .before .before .before
-    .comma .given .1)) _ _ _ _ _ _ (gives-tree _ _ (c .before .before .before .before .before .before .before
-    .read-tree2 .ensures) (c .before .before .before .before .before .close .given .1))) in let a = r .2 in let b = r
+read-pair-narrow-requires t c κs =
+    let c1 = c .before .before .before .before .before in
+    let c2 = c1 .before .before in
+    let c3 = c2 .before .before .before .before .before .before .before in
+    let c4 = c3 .before .before in
+    let start = c4 .before .before .before .before .before .before .before in
+    let r = (pair-room _ _ _ _ _ _ _ _ _ (start .pre .1 .0) _ _ _ _ _ (gives-tree _ _ (c4 .read-tree .ensures) (c3
+    .comma .given .1)) _ _ _ _ _ _ (gives-tree _ _ (c2
+    .read-tree2 .ensures) (c1 .close .given .1))) in let a = r .2 in let b = r
     .3 in omega arith
 
 read-pair-sub-narrow-2 : (t : ℕ) → read-pair-lts.Need-sub-narrow-2 (
@@ -356,13 +380,16 @@ read-pair-sub-narrow-2 : (t : ℕ) → read-pair-lts.Need-sub-narrow-2 (
   put-node-reads.Asked,
   put-node-reads.Learnt,
 ) (read-pair-at t) read-pair.Post
-read-pair-sub-narrow-2 t c = (pair-room _ _ _ _ _ _ _ _ _ (c .before .before .before .before .before .before .before
-    .before .before .before .before .before .before .before .before .before .before .before .before .before .before
-    .before .before .before .pre .1 .0) _ _ _ _ _ (gives-tree _ _ (c .before .before .before .before .before .before
-    .before .before .before .before .before .before .before .before .before .before .before .read-tree .ensures) (c
-    .before .before .before .before .before .before .before .before .before .before .before .before .before .before
-    .before .comma .given .1)) _ _ _ _ _ _ (gives-tree _ _ (c .before .before .before .before .before .before .before
-    .before .read-tree2 .ensures) (c .before .before .before .before .before .before .close .given .1))) .1
+read-pair-sub-narrow-2 t c =
+    let c1 = c .before .before .before .before .before .before in
+    let c2 = c1 .before .before in
+    let c3 = c2 .before .before .before .before .before .before .before in
+    let c4 = c3 .before .before in
+    let start = c4 .before .before .before .before .before .before .before in
+    (pair-room _ _ _ _ _ _ _ _ _ (start .pre .1 .0) _ _ _ _ _
+    (gives-tree _ _ (c4 .read-tree .ensures) (c3 .comma .given .1)) _ _ _ _ _ _
+    (gives-tree _ _ (c2 .read-tree2 .ensures) (c1 .close .given .1)))
+    .1
 
 read-pair-narrow-requires-2 : (t : ℕ) → read-pair-lts.Need-narrow-requires-2 (
   read-tree-below t,
@@ -374,13 +401,14 @@ read-pair-narrow-requires-2 : (t : ℕ) → read-pair-lts.Need-narrow-requires-2
   put-node-reads.Asked,
   put-node-reads.Learnt,
 ) (read-pair-at t) read-pair.Post
-read-pair-narrow-requires-2 t c κs = let b = (pair-room _ _ _ _ _ _ _ _ _ (c .before .before .before .before .before
-    .before .before .before .before .before .before .before .before .before .before .before .before .before .before
-    .before .before .before .before .before .pre .1 .0) _ _ _ _ _ (gives-tree _ _ (c .before .before .before .before
-    .before .before .before .before .before .before .before .before .before .before .before .before .before
-    .read-tree .ensures) (c .before .before .before .before .before .before .before .before .before .before .before
-    .before .before .before .before .comma .given .1)) _ _ _ _ _ _ (gives-tree _ _ (c .before .before .before .before
-    .before .before .before .before .read-tree2 .ensures) (c .before .before .before .before .before .before .close
+read-pair-narrow-requires-2 t c κs =
+    let c1 = c .before .before .before .before .before .before in
+    let c2 = c1 .before .before in
+    let c3 = c2 .before .before .before .before .before .before .before in
+    let c4 = c3 .before .before in
+    let start = c4 .before .before .before .before .before .before .before in
+    let b = (pair-room _ _ _ _ _ _ _ _ _ (start .pre .1 .0) _ _ _ _ _ (gives-tree _ _ (c4
+    .read-tree .ensures) (c3 .comma .given .1)) _ _ _ _ _ _ (gives-tree _ _ (c2 .read-tree2 .ensures) (c1 .close
     .given .1))) .3 in omega arith
 
 read-pair-put-node-requires : (t : ℕ) → read-pair-lts.Need-put-node-requires (
@@ -393,14 +421,15 @@ read-pair-put-node-requires : (t : ℕ) → read-pair-lts.Need-put-node-requires
   put-node-reads.Asked,
   put-node-reads.Learnt,
 ) (read-pair-at t) read-pair.Post
-read-pair-put-node-requires t c κs = (pair-room _ _ _ _ _ _ _ _ _ (c .before .before .before .before .before .before
-    .before .before .before .before .before .before .before .before .before .before .before .before .before .before
-    .before .before .before .before .before .pre .1 .0) _ _ _ _ _ (gives-tree _ _ (c .before .before .before .before
-    .before .before .before .before .before .before .before .before .before .before .before .before .before .before
-    .read-tree .ensures) (c .before .before .before .before .before .before .before .before .before .before .before
-    .before .before .before .before .before .comma .given .1)) _ _ _ _ _ _ (gives-tree _ _ (c .before .before .before
-    .before .before .before .before .before .before .read-tree2 .ensures) (c .before .before .before .before .before
-    .before .before .close .given .1))) .3
+read-pair-put-node-requires t c κs =
+    let c1 = c .before .before .before .before .before .before .before in
+    let c2 = c1 .before .before in
+    let c3 = c2 .before .before .before .before .before .before .before in
+    let c4 = c3 .before .before in
+    let start = c4 .before .before .before .before .before .before .before in
+    (pair-room _ _ _ _ _ _ _ _ _ (start .pre .1 .0) _ _ _ _ _ (gives-tree _ _ (c4
+    .read-tree .ensures) (c3 .comma .given .1)) _ _ _ _ _ _ (gives-tree _ _ (c2 .read-tree2 .ensures) (c1 .close
+    .given .1))) .3
 
 read-pair-add-t16 : (t : ℕ) → read-pair-lts.Need-add-t16 (
   read-tree-below t,
@@ -412,15 +441,17 @@ read-pair-add-t16 : (t : ℕ) → read-pair-lts.Need-add-t16 (
   put-node-reads.Asked,
   put-node-reads.Learnt,
 ) (read-pair-at t) read-pair.Post
-read-pair-add-t16 t c = record {
-  fits = lt-of-le-of-lt (add-one-le (byte-inside (c .before .before .before .before
-      .before .before .before .before .before .before .before .before .before .before .before .before .before .before
-      .before .before .before .before .before .before .before .before .args .sheet .now) _ 41 (omega arith) (test-yes
-      (c .before .before .before .before .before .before .byte-is2 .ensures) (c .before .before .before .before .before
-      .if3 .left)))) (c .before .before .before .before .before .before .before .before .before .before .before .before
-      .before .before .before .before .before .before .before .before .before .before .before .before .before .before
-      .good .0 .0);
-}
+read-pair-add-t16 t c =
+    let c1 = c .before .before .before .before .before in
+    let c2 = c1 .before in
+    let start = c2 .before .before .before .before .before .before .before .before .before .before .before .before
+    .before .before .before .before .before .before .before .before in
+    record {
+      fits = lt-of-le-of-lt (add-one-le (byte-inside (start .args .sheet .now) _ 41 (omega arith) (test-yes
+          (c2 .byte-is2 .ensures) (c1
+          .if3 .left)))) (start
+          .good .0 .0);
+    }
 
 read-pair-add-t17 : (t : ℕ) → read-pair-lts.Need-add-t17 (
   read-tree-below t,
@@ -432,17 +463,20 @@ read-pair-add-t17 : (t : ℕ) → read-pair-lts.Need-add-t17 (
   put-node-reads.Asked,
   put-node-reads.Learnt,
 ) (read-pair-at t) read-pair.Post
-read-pair-add-t17 t c = record {
-  fits = let b = (pair-room _ _ _ _ _ _ _ _ _ (c .before .before .before .before
-      .before .before .before .before .before .before .before .before .before .before .before .before .before .before
-      .before .before .before .before .before .before .before .before .pre .1 .0) _ _ _ _ _ (gives-tree _ _ (c .before
-      .before .before .before .before .before .before .before .before .before .before .before .before .before .before
-      .before .before .before .before .read-tree .ensures) (c .before .before .before .before .before .before .before
-      .before .before .before .before .before .before .before .before .before .before .comma .given .1)) _ _ _ _ _ _
-      (gives-tree _ _ (c .before .before .before .before .before .before .before .before .before .before .read-tree2
-      .ensures) (c .before .before .before .before .before .before .before .before .close .given .1))) .3 in
-      omega arith;
-}
+read-pair-add-t17 t c =
+    let c1 = c .before .before .before .before .before .before .before .before in
+    let c2 = c1 .before .before in
+    let c3 = c2 .before .before .before .before .before .before .before in
+    let c4 = c3 .before .before in
+    let start = c4 .before .before .before .before .before .before .before in
+    record {
+      fits = let b =
+          (pair-room _ _ _ _ _ _ _ _ _ (start .pre .1 .0) _ _ _ _ _
+          (gives-tree _ _ (c4 .read-tree .ensures) (c3 .comma .given .1)) _ _ _ _ _ _
+          (gives-tree _ _ (c2 .read-tree2
+          .ensures) (c1 .close .given .1))) .3 in
+          omega arith;
+    }
 
 read-pair-returns-6 : (t : ℕ) → read-pair-lts.Need-returns-6 (
   read-tree-below t,
@@ -454,29 +488,30 @@ read-pair-returns-6 : (t : ℕ) → read-pair-lts.Need-returns-6 (
   put-node-reads.Asked,
   put-node-reads.Learnt,
 ) (read-pair-at t) read-pair.Post
-read-pair-returns-6 t c = record {
-  gives = pair-got _ _ _ _ _ _ _ _ _ (c .before .before .before .before .before
-      .before .before .before .before .before .before .before .before .before .before .before .before .before .before
-      .before .before .before .before .before .before .before .pre .1 .0) _ _ _ _ _ (gives-tree _ _ (c .before .before
-      .before .before .before .before .before .before .before .before .before .before .before .before .before .before
-      .before .before .before .read-tree .ensures) (c .before .before .before .before .before .before .before .before
-      .before .before .before .before .before .before .before .before .before .comma .given .1)) _ _ _ _ _ _
-      (gives-tree _ _ (c .before .before .before .before .before .before .before .before .before .before .read-tree2
-      .ensures) (c .before .before .before .before .before .before .before .before .close .given .1)) _ _ _ _ _ _ _
-      (pair-whole _ _ _ _ _ _ (c .before .before .before .before .before .before .before .before .before .before
-      .before .before .before .before .before .before .before .before .before .before .before .before .before .if1
-      .left) _ _ _ ((gives-tree _ _ (c .before .before .before .before .before .before .before .before .before .before
-      .before .before .before .before .before .before .before .before .before .read-tree .ensures) (c .before .before
-      .before .before .before .before .before .before .before .before .before .before .before .before .before .before
-      .before .comma .given .1)) .is) (test-yes (c .before .before .before .before .before .before .before .before
-      .before .before .before .before .before .before .before .byte-is .ensures) (c .before .before .before .before
-      .before .before .before .before .before .before .before .before .before .before .if2 .left)) _ _ _ ((gives-tree _
-      _ (c .before .before .before .before .before .before .before .before .before .before .read-tree2 .ensures) (c
-      .before .before .before .before .before .before .before .before .close .given .1)) .is) (test-yes (c .before
-      .before .before .before .before .before .byte-is2 .ensures) (c .before .before .before .before .before .if3
-      .left))) (c .before .before .narrow .ensures) (c .before .narrow2 .ensures) (c .put-node .ensures .0) (c
-      .put-node .ensures .1) refl;
-}
+read-pair-returns-6 t c =
+    let c1 = c .before .before in
+    let c2 = c1 .before .before .before in
+    let c3 = c2 .before in
+    let c4 = c3 .before .before in
+    let c5 = c4 .before .before in
+    let c6 = c5 .before .before .before .before in
+    let c7 = c6 .before in
+    let c8 = c7 .before .before in
+    let c9 = c8 .before .before in
+    let c10 = c9 .before .before .before .before in
+    let start = c10 .before .before .before in
+    record {
+      gives = pair-got _ _ _ _ _ _ _ _ _ (start .pre .1 .0) _ _ _ _ _
+          (gives-tree _ _ (c9 .read-tree .ensures) (c8 .comma .given .1)) _ _ _ _ _ _
+          (gives-tree _ _ (c5 .read-tree2
+          .ensures) (c4 .close .given .1)) _ _ _ _ _ _ _
+          (pair-whole _ _ _ _ _ _ (c10 .if1
+          .left) _ _ _ ((gives-tree _ _ (c9 .read-tree .ensures) (c8 .comma .given .1)) .is) (test-yes
+          (c7 .byte-is .ensures) (c6 .if2 .left)) _ _ _ ((gives-tree _
+          _ (c5 .read-tree2 .ensures) (c4 .close .given .1)) .is) (test-yes (c3 .byte-is2 .ensures) (c2 .if3
+          .left))) (c1 .narrow .ensures) (c .before .narrow2 .ensures) (c .put-node .ensures .0) (c
+          .put-node .ensures .1) refl;
+    }
 
 read-tree-byte-is-requires : (t : ℕ) → read-tree-lts.Need-byte-is-requires (
   byte-is-reads.Asked,
@@ -496,16 +531,17 @@ read-tree-read-pair-requires : (t : ℕ) → read-tree-lts.Need-read-pair-requir
   read-name-reads.Asked,
   read-name-reads.Learnt,
 ) (read-tree-at t) read-tree.Post
-read-tree-read-pair-requires t c κs = (
-  let e = c .before .before .before .before .before .before .before .pre .0 in
-      omega arith,
-  (
-    c .before .before .before .before .before .before .before .pre .1,
-    byte-inside (c .before .before
-        .before .before .before .before .before .args .sheet .now) _ 40 (omega arith) (sym (c .before .before .before
-        .before .byte-is .ensures) ∙ c .before .before .before .if1 .taken),
-  ),
-)
+read-tree-read-pair-requires t c κs =
+    let c1 = c .before .before .before in
+    let c2 = c1 .before in
+    let start = c2 .before .before .before in (
+      let e = start .pre .0 in
+          omega arith,
+      (
+        start .pre .1,
+        byte-inside (start .args .sheet .now) _ 40 (omega arith) (sym (c2 .byte-is .ensures) ∙ c1 .if1 .taken),
+      ),
+    )
 
 read-tree-returns : (t : ℕ) → read-tree-lts.Need-returns (
   byte-is-reads.Asked,
@@ -515,8 +551,11 @@ read-tree-returns : (t : ℕ) → read-tree-lts.Need-returns (
   read-name-reads.Asked,
   read-name-reads.Learnt,
 ) (read-tree-at t) read-tree.Post
-read-tree-returns t c = gives-same (tree-pair _ _ _ _ _ _ (sym (c .before .before .before .before .before .byte-is
-    .ensures) ∙ c .before .before .before .before .if1 .taken)) (c .read-pair .ensures)
+read-tree-returns t c =
+    let c1 = c .before .before .before .before in
+    let c2 = c1 .before in
+    gives-same (tree-pair _ _ _ _ _ _ (sym (c2 .byte-is
+    .ensures) ∙ c1 .if1 .taken)) (c .read-pair .ensures)
 
 read-tree-read-name-requires : (t : ℕ) → read-tree-lts.Need-read-name-requires (
   byte-is-reads.Asked,
@@ -526,7 +565,9 @@ read-tree-read-name-requires : (t : ℕ) → read-tree-lts.Need-read-name-requir
   read-name-reads.Asked,
   read-name-reads.Learnt,
 ) (read-tree-at t) read-tree.Post
-read-tree-read-name-requires t c κs = c .before .before .before .before .before .before .before .pre .1
+read-tree-read-name-requires t c κs =
+    let start = c .before .before .before .before .before .before .before in
+    start .pre .1
 
 read-tree-returns-2 : (t : ℕ) → read-tree-lts.Need-returns-2 (
   byte-is-reads.Asked,
@@ -536,8 +577,11 @@ read-tree-returns-2 : (t : ℕ) → read-tree-lts.Need-returns-2 (
   read-name-reads.Asked,
   read-name-reads.Learnt,
 ) (read-tree-at t) read-tree.Post
-read-tree-returns-2 t c = gives-same (tree-name _ _ _ _ _ _ (sym (c .before .before .before .before .before .byte-is
-    .ensures) ∙ c .before .before .before .before .if1 .left)) (c .read-name .ensures)
+read-tree-returns-2 t c =
+    let c1 = c .before .before .before .before in
+    let c2 = c1 .before in
+    gives-same (tree-name _ _ _ _ _ _ (sym (c2 .byte-is
+    .ensures) ∙ c1 .if1 .left)) (c .read-name .ensures)
 
 pub +read-pair+read-tree-spec : {M : Type 1} → statement M
 +read-pair+read-tree-spec = close μ-read-pair μ-read-tree (λ t. read-pair-lts.spec (

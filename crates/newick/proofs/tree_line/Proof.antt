@@ -21,9 +21,9 @@ use Rattle.newick.proofs.tree_line.Tie as tie
 
 read-tree-requires : tie.Need-read-tree-requires
 unfolding unmarked
-read-tree-requires c κs = start-ready _ _ _ _ (c .before .before .before .before .before .pre .0) (c .before .before
-    .before .before .before .pre .1) (c .before .before .before .before .before .pre .2) (c .before .before .before
-    .before .before .pre .3)
+read-tree-requires c κs =
+    let start = c .before .before .before .before .before in
+    start-ready _ _ _ _ (start .pre .0) (start .pre .1) (start .pre .2) (start .pre .3)
 
 enum-known-stop : tie.Need-enum-known-stop
 enum-known-stop c = search needs
@@ -43,58 +43,73 @@ byte-is-requires c κs = search needs
 
 returns-2 : tie.Need-returns-2
 unfolding unmarked
-returns-2 c = record {
-  gives = line-stop _ _ _ _ _ _ _ _ _ _ _ _ (gives-tree _ _ (c .before .before .before .before
-      .before .read-tree .ensures) (c .before .before .before .stop .given .1)) (test-no (c .before .byte-is .ensures)
-      (c .if1 .taken));
-}
+returns-2 c =
+    let c1 = c .before .before .before in
+    let c2 = c1 .before .before in
+    record {
+      gives = line-stop _ _ _ _ _ _ _ _ _ _ _ _ (gives-tree _ _ (c2 .read-tree .ensures) (c1 .stop .given .1))
+          (test-no (c .before .byte-is .ensures)
+          (c .if1 .taken));
+    }
 
 add-if2 : tie.Need-add-if2
-add-if2 c = record {
-  fits = lt-of-le-of-lt (add-one-le (byte-inside (c .before .before .before .before .before
-      .before .before .before .before .before .before .args .sheet .now) _ 59 (omega arith) (test-yes (c .before
-      .byte-is .ensures) (c .if1 .left)))) (c .before .before .before .before .before .before .before .before .before
-      .before .before .good .0 .0);
-}
+add-if2 c =
+    let start = c .before .before .before .before .before .before .before .before .before .before .before in
+    record {
+      fits = lt-of-le-of-lt (add-one-le (byte-inside (start .args .sheet .now) _ 59 (omega arith) (test-yes (c .before
+          .byte-is .ensures) (c .if1 .left)))) (start .good .0 .0);
+    }
 
 returns-3 : tie.Need-returns-3
 unfolding unmarked
-returns-3 c = record {
-  gives = line-after _ _ _ _ _ _ _ _ _ _ _ _ (gives-tree _ _ (c .before .before .before .before
-      .before .before .read-tree .ensures) (c .before .before .before .before .stop .given .1)) (test-yes (c .before
-      .before .byte-is .ensures) (c .before .if1 .left)) (c .if2 .taken);
-}
+returns-3 c =
+    let c1 = c .before .before in
+    let c2 = c1 .before .before in
+    let c3 = c2 .before .before in
+    record {
+      gives = line-after _ _ _ _ _ _ _ _ _ _ _ _ (gives-tree _ _ (c3 .read-tree .ensures) (c2 .stop .given .1))
+          (test-yes (c1 .byte-is .ensures) (c .before .if1 .left)) (c .if2 .taken);
+    }
 
 add-if3 : tie.Need-add-if3
 unfolding unmarked
-add-if3 c = record {
-  fits = let n = line-nodes _ _ _ _ (c .before .before .before .before .before .before .before
-      .before .before .before .before .before .args .end) _ _ _ _ _ _ _ (gives-tree _ _ (c .before .before .before
-      .before .before .before .read-tree .ensures) (c .before .before .before .before .stop .given .1)) (c .before
-      .before .before .before .before .before .before .before .before .before .before .before .pre .0) (c .before
-      .before .before .before .before .before .before .before .before .before .before .before .pre .1) in omega arith;
-}
+add-if3 c =
+    let c1 = c .before .before .before .before in
+    let c2 = c1 .before .before in
+    let start = c2 .before .before .before .before .before .before in
+    record {
+      fits = let n = line-nodes _ _ _ _ (start .args .end) _ _ _ _ _ _ _
+          (gives-tree _ _ (c2 .read-tree .ensures) (c1 .stop .given .1)) (start .pre .0) (start .pre .1) in omega arith;
+    }
 
 mul-if3 : tie.Need-mul-if3
 mul-if3 c = search needs
 
 returns-4 : tie.Need-returns-4
 unfolding unmarked
-returns-4 c = record {
-  gives = line-missing _ _ _ _ _ _ _ _ _ _ _ _ (gives-tree _ _ (c .before .before .before
-      .before .before .before .before .read-tree .ensures) (c .before .before .before .before .before .stop .given .1))
-      (test-yes (c .before .before .before .byte-is .ensures) (c .before .before .if1 .left)) (c .before .if2 .left) (c
-      .if3 .taken);
-}
+returns-4 c =
+    let c1 = c .before .before in
+    let c2 = c1 .before in
+    let c3 = c2 .before .before in
+    let c4 = c3 .before .before in
+    record {
+      gives = line-missing _ _ _ _ _ _ _ _ _ _ _ _ (gives-tree _ _ (c4 .read-tree .ensures) (c3 .stop .given .1))
+          (test-yes (c2 .byte-is .ensures) (c1 .if1 .left)) (c .before .if2 .left) (c
+          .if3 .taken);
+    }
 
 returns-5 : tie.Need-returns-5
 unfolding unmarked
-returns-5 c = record {
-  gives = line-got _ _ _ _ _ _ _ _ _ _ _ _ (gives-tree _ _ (c .before .before .before .before
-      .before .before .before .read-tree .ensures) (c .before .before .before .before .before .stop .given .1))
-      (test-yes (c .before .before .before .byte-is .ensures) (c .before .before .if1 .left)) (c .before .if2 .left) (c
-      .if3 .left);
-}
+returns-5 c =
+    let c1 = c .before .before in
+    let c2 = c1 .before in
+    let c3 = c2 .before .before in
+    let c4 = c3 .before .before in
+    record {
+      gives = line-got _ _ _ _ _ _ _ _ _ _ _ _ (gives-tree _ _ (c4 .read-tree .ensures) (c3 .stop .given .1))
+          (test-yes (c2 .byte-is .ensures) (c1 .if1 .left)) (c .before .if2 .left) (c
+          .if3 .left);
+    }
 
 pub tree-line-spec : {M : Type 1} → statement M
 tree-line-spec =

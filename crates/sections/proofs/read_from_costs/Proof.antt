@@ -32,7 +32,8 @@ add-read-count-2 c = search needs
 
 add-read-count-3 : tie.Need-add-read-count-3
 add-read-count-3 c =
-    omega (arith, costs-few _ _ _ (c .before .before .before .costs-section .ensures) (c .before .k .given .1))
+    let c1 = c .before .before .before in
+    omega (arith, costs-few _ _ _ (c1 .costs-section .ensures) (c .before .k .given .1))
 
 slice-aggregate-read-count : tie.Need-slice-aggregate-read-count
 slice-aggregate-read-count c = search needs
@@ -54,29 +55,37 @@ add-t26 c = search needs
 
 add-t27 : tie.Need-add-t27
 add-t27 c =
-    let at-k = c .before .before .before .before .before .before in
+    let c1 = c .before .before .before .before .before .before in
+    let at-k = c1 in
     let at-costs-section = at-k .before .before in
     omega (arith, costs-few _ _ _ (at-costs-section .costs-section .ensures) (at-k .k .given .1))
 
 returns : tie.Need-returns
 returns c =
-    rest-no-costs _ _ _ _ _ _ _ _ (c .before .before .before .costs-section .ensures) _ (c .before .fault .given .1)
+    let c1 = c .before .before .before in
+    rest-no-costs _ _ _ _ _ _ _ _ (c1 .costs-section .ensures) _ (c .before .fault .given .1)
 
 returns-2 : tie.Need-returns-2
 unfolding bytes
 returns-2 c =
+    let c1 = c .before .before .before in
+    let c2 = c1 .before .before .before in
+    let c3 = c2 .before .before in
     rest-no-tree _ _ _ _ _ _ _ _
-    (c .before .before .before .before .before .before .before .before .costs-section .ensures) _ _
-    (c .before .before .before .before .before .before .k .given .1) _
-    (sym (c .before .before .before .read-count .ensures) ∙ c .before .fault2 .given .1)
+    (c3 .costs-section .ensures) _ _
+    (c2 .k .given .1) _
+    (sym (c1 .read-count .ensures) ∙ c .before .fault2 .given .1)
 
 returns-3 : tie.Need-returns-3
 unfolding bytes
 returns-3 c =
+    let c1 = c .before .before .before in
+    let c2 = c1 .before .before .before in
+    let c3 = c2 .before .before in
     rest-whole _ _ _ _ _ _ _ _
-    (c .before .before .before .before .before .before .before .before .costs-section .ensures) _ _
-    (c .before .before .before .before .before .before .k .given .1) _ _
-    (sym (c .before .before .before .read-count .ensures) ∙ c .before .tree .given .1)
+    (c3 .costs-section .ensures) _ _
+    (c2 .k .given .1) _ _
+    (sym (c1 .read-count .ensures) ∙ c .before .tree .given .1)
 
 pub read-from-costs-spec : {M : Type 1} → statement M
 read-from-costs-spec =

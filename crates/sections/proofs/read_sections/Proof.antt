@@ -16,18 +16,22 @@ enum-known-t : tie.Need-enum-known-t
 enum-known-t c = search needs
 
 read-from-columns-requires : tie.Need-read-from-columns-requires
-read-from-columns-requires c κs = (
-  names-few _ _ _ (c .before .before .before .before .before .before .names-section .ensures)
-      (c .before .before .t .given .1),
-  c .before .before .before .before .before .before .before .before .before .before .pre .1,
-)
+read-from-columns-requires c κs =
+    let c1 = c .before .before in
+    let c2 = c1 .before .before .before .before in
+    let start = c2 .before .before .before .before in (
+      names-few _ _ _ (c2 .names-section .ensures)
+          (c1 .t .given .1),
+      start .pre .1,
+    )
 
 same-length : tie.Need-same-length
 same-length c = search needs
 
 returns : tie.Need-returns
 returns c =
-    sheet-no-names _ _ _ _ _ (c .before .before .before .before .before .names-section .ensures) _
+    let c1 = c .before .before .before .before .before in
+    sheet-no-names _ _ _ _ _ (c1 .names-section .ensures) _
     (c .before .fault .given .1)
 
 same-length-2 : tie.Need-same-length-2
@@ -35,8 +39,10 @@ same-length-2 c = search needs
 
 returns-2 : tie.Need-returns-2
 returns-2 c =
-    sheet-names _ _ _ _ _ (c .before .before .before .before .before .before .before .names-section .ensures) _ _ _ _
-    (c .before .before .before .t .given .1) (c .read-from-columns .ensures)
+    let c1 = c .before .before .before in
+    let c2 = c1 .before .before .before .before in
+    sheet-names _ _ _ _ _ (c2 .names-section .ensures) _ _ _ _
+    (c1 .t .given .1) (c .read-from-columns .ensures)
 
 pub read-sections-spec : {M : Type 1} → statement M
 read-sections-spec =

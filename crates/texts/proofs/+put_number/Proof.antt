@@ -68,9 +68,12 @@ put-number-returns : (t : ℕ) → put-number-lts.Need-returns (
   put-number.Post,
 ) (put-number-at t) put-number.Post
 put-number-returns t c =
-    let digit = c .before .before .before .before .digit in
-    let if1 = c .before .before .before .before .before .if1 in
-    put-small (if1 .taken) (digit .ensures) (c .before .before .put-byte .ensures)
+    let c1 = c .before .before in
+    let c2 = c1 .before .before in
+    let c3 = c2 .before in
+    let digit = c2 .digit in
+    let if1 = c3 .if1 in
+    put-small (if1 .taken) (digit .ensures) (c1 .put-byte .ensures)
 
 put-number-put-number-requires : (t : ℕ) → put-number-lts.Need-put-number-requires (
   digit-reads.Asked,
@@ -134,10 +137,14 @@ put-number-returns-2 : (t : ℕ) → put-number-lts.Need-returns-2 (
   put-number.Post,
 ) (put-number-at t) put-number.Post
 put-number-returns-2 t c =
-    let digit2 = c .before .before .before .before .digit2 in
-    let put-number = c .before .before .before .before .before .before .before .put-number in
-    let if1 = c .before .before .before .before .before .before .before .before .before .if1 in
-    put-tens (if1 .left) (digit2 .ensures) (put-number .ensures) (c .before .before .put-byte2 .ensures)
+    let c1 = c .before .before in
+    let c2 = c1 .before .before in
+    let c3 = c2 .before .before .before in
+    let c4 = c3 .before .before in
+    let digit2 = c2 .digit2 in
+    let put-number = c3 .put-number in
+    let if1 = c4 .if1 in
+    put-tens (if1 .left) (digit2 .ensures) (put-number .ensures) (c1 .put-byte2 .ensures)
 
 pub +put-number-spec : {M : Type 1} → statement M
 +put-number-spec = close μ-put-number λ t. put-number-lts.spec (

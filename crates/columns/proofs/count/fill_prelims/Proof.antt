@@ -33,7 +33,8 @@ abbrev μ-loop : tie.MeasureT-loop
 
 loop-holds : tie.Need-loop-holds Inv-loop μ-loop
 loop-holds c =
-    let args = c .before .before .before .before .args in (
+    let start = c .before .before .before .before in
+    let args = start .args in (
       omega arith,
       wrote-none 0 _ (args .sets .now),
       changes-none (args .left .now) (args .right .now) (args .c) (args .cells .now) (args .j),
@@ -77,7 +78,8 @@ loop-less c = search needs
 
 loop-again : tie.Need-loop-again Inv-loop μ-loop
 loop-again c =
-    let inv = c .before .before .before .before .loop .inv in
+    let c1 = c .before .before .before .before in
+    let inv = c1 .loop .inv in
     let long = inv .1 .long in (
       omega arith,
       front-more _ _ _ _ (inv .1) _ (omega arith) (c .before .node-count .ensures .0),

@@ -48,7 +48,9 @@ kids-at c =
     (is-inner c)
 
 node-at-requires : tie.Need-node-at-requires
-node-at-requires c κs = let equal = c .before .before .before .before .pre .0 .size .equal in omega arith
+node-at-requires c κs =
+    let start = c .before .before .before .before in
+    let equal = start .pre .0 .size .equal in omega arith
 
 enum-known-r : tie.Need-enum-known-r
 enum-known-r c = search needs
@@ -81,7 +83,9 @@ mul-join-2 : tie.Need-mul-join-2
 mul-join-2 c = let kids = kids-at (c .before .before) in omega (arith, from-a (c .before .before) .good)
 
 shared-slice-read-join-2 : tie.Need-shared-slice-read-join-2
-shared-slice-read-join-2 c = let kids = kids-at (c .before .before .before) in omega arith
+shared-slice-read-join-2 c =
+    let c1 = c .before .before .before in
+    let kids = kids-at (c1) in omega arith
 
 join-requires : tie.Need-join-requires
 join-requires c κs = search needs

@@ -19,7 +19,9 @@ abbrev μ-loop : tie.MeasureT-loop
 μ-loop left right s costs c cells h handed j rows₀ v₀ rows v = length left - v
 
 loop-holds : tie.Need-loop-holds Inv-loop μ-loop
-loop-holds c = (omega arith, room-none _ _ (c .before .before .before .before .before .before .args .rows .now))
+loop-holds c =
+    let start = c .before .before .before .before .before .before in
+    (omega arith, room-none _ _ (start .args .rows .now))
 
 node-row-requires : tie.Need-node-row-requires Inv-loop μ-loop
 node-row-requires c κs =
@@ -36,8 +38,10 @@ loop-less c = search needs
 
 loop-again : tie.Need-loop-again Inv-loop μ-loop
 loop-again c =
-    let inv = c .before .before .before .before .before .loop .inv in
-    (omega arith, room-more _ _ _ _ _ _ (inv .1) (c .before .before .node-row .ensures))
+    let c1 = c .before .before in
+    let c2 = c1 .before .before .before in
+    let inv = c2 .loop .inv in
+    (omega arith, room-more _ _ _ _ _ _ (inv .1) (c1 .node-row .ensures))
 
 same-length : tie.Need-same-length Inv-loop μ-loop
 same-length c = search needs

@@ -80,7 +80,9 @@ kids-at c =
     (start .pre .1 .1 .0 .1) (start .pre .1 .1 .1) (c .a .given .0 .0) (c .a .given .0 .1 .0) (is-inner c)
 
 mul-at : tie.Need-mul-at
-mul-at c = let last = room (c .before .before .before .before .before .before) in omega arith
+mul-at c =
+    let c1 = c .before .before .before .before .before .before in
+    let last = room (c1) in omega arith
 
 node-at-requires : tie.Need-node-at-requires
 node-at-requires c κs = search needs
