@@ -10,8 +10,8 @@ use tables::rules::costs_fit;
 use tables::rules::handed_fit;
 use trees::nodes::size_fits;
 use trees::nodes::tips_of;
-use trees::shape::Tree;
-use trees::shape::check_tree;
+use shapes::shape::Tree;
+use shapes::shape::check_tree;
 
 // SIZE, SHAPE, COSTS and CELLS.
 pub fn matrix_tests(
