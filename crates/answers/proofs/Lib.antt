@@ -1,4 +1,4 @@
 -- Laws of the answers.
+-- Assumes nothing.
 pub mod RuleLaws
 pub mod RootLaws
-pub mod StartLaws

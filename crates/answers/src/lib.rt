@@ -1,6 +1,4 @@
-// The numbered answers of the table calls, and the tests that give them.
-pub mod calls;
-pub mod starts;
+// The numbered answers of the table calls, and the tests of their tables.
 pub mod table;
 
 // The refusals of the table calls, in the order of their numbers.

@@ -5,13 +5,13 @@ ghost use Rattle.answers.specs.CallRules.{matrixRules, tableRules};
 ghost use Rattle.answers.specs.Input.{input};
 use crate::Answer;
 use crate::Refusal;
+use shapes::shape::Tree;
+use shapes::shape::check_tree;
 use tables::rules::cells_fit;
 use tables::rules::costs_fit;
 use tables::rules::handed_fit;
 use trees::nodes::size_fits;
 use trees::nodes::tips_of;
-use trees::shape::Tree;
-use trees::shape::check_tree;
 
 // SIZE, SHAPE, COSTS and CELLS.
 pub fn matrix_tests(

@@ -19,7 +19,7 @@ use Rattle.parsimony.proofs.LeastLaws.{least-same}
 use Rattle.parsimony.proofs.RowLaws.{row-tip, row-inner}
 use Rattle.parsimony.proofs.ShapeLaws.{row-within}
 use Rattle.steps.specs.Lane.{Calm, entryAt, lane, joinAt}
-use Rattle.trees.proofs.ShapeSteps.{tips-most}
+use Rattle.trees.proofs.NodeLaws.{tips-most}
 use Rattle.columns.specs.Ready.{Ready, handedTips}
 use Rattle.columns.specs.RowRoom.{Holds}
 use Rattle.columns.proofs.PlaceLaws.{row-inside, kids-below}

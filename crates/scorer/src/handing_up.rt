@@ -6,7 +6,7 @@ ghost use Rattle.answers.specs.Rules.{All};
 ghost use Rattle.scorer.specs.Promises.{RowWritten, HandedUp};
 use crate::rows::work_rows;
 use answers::Answer;
-use answers::calls::hand_up_tests;
+use requests::hand_up_tests;
 use roots::root_place;
 use steps::copy_row;
 

@@ -7,7 +7,7 @@ ghost use Rattle.scorer.specs.Promises.{LabelsWritten, Labelled};
 use crate::rows::work_rows;
 use answers::Answer;
 use answers::Start;
-use answers::calls::label_tests;
+use requests::label_tests;
 use roots::states_down;
 
 // The labels of column j, from the root down.

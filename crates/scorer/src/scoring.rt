@@ -9,8 +9,8 @@ ghost use Rattle.answers.specs.Input.{input, tipsIn, column};
 ghost use Rattle.answers.specs.Rules.{All};
 ghost use Rattle.scorer.specs.Promises.{Worked, ScoresWritten, Scored};
 use answers::Answer;
-use answers::calls::score_tests;
 use columns::up::fill_rows;
+use requests::score_tests;
 use roots::root_least;
 use trees::nodes::tips_of;
 

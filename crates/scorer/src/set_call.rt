@@ -7,7 +7,7 @@ ghost use Rattle.scorer.specs.Promises.{SetsWritten, SetsFound};
 use crate::rows::work_rows;
 use answers::Answer;
 use answers::Start;
-use answers::calls::sets_tests;
+use requests::sets_tests;
 use roots::sets_down;
 
 // The sets of column j, from the root down.

@@ -8,7 +8,7 @@ use crate::Work;
 use crate::rows::work_rows;
 use answers::Answer;
 use answers::Start;
-use answers::calls::work_tests;
+use requests::work_tests;
 use roots::root_least;
 use roots::sets_down;
 use roots::states_down;

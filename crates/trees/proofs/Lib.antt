@@ -1,6 +1,3 @@
--- Laws of the loops of the tests of trees.
+-- Laws of the nodes of tree tables.
 -- Assumes nothing.
-pub mod ShapeSteps
-pub mod MarkLaws
-pub mod VisitLaws
-pub mod FoundLaws
+pub mod NodeLaws

@@ -1,6 +1,3 @@
--- What the tests of tree tables say, over the definitions of `parsimony`.
+-- What the nodes of tree tables are, over the definitions of `parsimony`.
 -- Assumes nothing.
 pub mod NodeOf
-pub mod Found
-pub mod Marks
-pub mod Visit

@@ -1,4 +1,2 @@
-// The tests of tree tables: size and tree. Each decides a rule of `parsimony`.
-mod marks;
+// Tree tables: the test of the size, the nodes, and how many of them are tips.
 pub mod nodes;
-pub mod shape;

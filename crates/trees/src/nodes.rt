@@ -18,7 +18,7 @@ const NO_CHILD: u16 = 65535;
 
 const FIRST_HANDED: u16 = 32768;
 
-pub(crate) const MOST_NODES: usize = 1023;
+pub const MOST_NODES: usize = 1023;
 
 // The two lists have one length, odd and at most 1,023.
 pub fn size_fits(left: &[u16], right: &[u16]) -> bool

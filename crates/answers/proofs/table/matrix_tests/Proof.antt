@@ -9,8 +9,8 @@ use Rattle.parsimony.proofs.ShapeLaws.{fault-illegal}
 use Rattle.parsimony.proofs.TellsLaws.{unless-yes, unless-no}
 use Rattle.parsimony.specs.Allowed.{CellRules}
 use Rattle.parsimony.specs.Table.{symbol, nodeAt}
-use Rattle.trees.proofs.ShapeSteps.{tips-most}
-use Rattle.trees.specs.Found.{Found}
+use Rattle.trees.proofs.NodeLaws.{tips-most}
+use Rattle.shapes.specs.Found.{Found}
 use Rattle.answers.proofs.table.matrix_tests.Tie as tie
 
 size-fits-requires : tie.Need-size-fits-requires

@@ -12,7 +12,7 @@ use Rattle.answers.specs.Input.{Input, input}
 use Rattle.parsimony.proofs.TellsLaws.{unless-yes, unless-no}
 use Rattle.parsimony.specs.Allowed.{HandedRules}
 use Rattle.parsimony.specs.Table.{handed, nodeAt}
-use Rattle.trees.proofs.ShapeSteps.{tips-most}
+use Rattle.trees.proofs.NodeLaws.{tips-most}
 use Rattle.answers.proofs.table.table_tests.Tie as tie
 
 -- the table that is given

@@ -3,7 +3,7 @@
 use mathlib.Core.Path.{ap, _∙_}
 use borrow.Author.Needs.{needs}
 use Rattle.parsimony.specs.Table.{symbol, handed, leaf}
-use Rattle.trees.proofs.ShapeSteps.{node-symbol, node-handed, node-inner}
+use Rattle.trees.proofs.NodeLaws.{node-symbol, node-handed, node-inner}
 use Rattle.trees.proofs.nodes.node_at.Statement.{statement}
 use Rattle.trees.proofs.nodes.node_at.Tie as tie
 

@@ -5,7 +5,7 @@ use native.Mathlib.Omega.{arith}
 use borrow.Author.Needs.{needs}
 use lib.Dec.{eqb, ltb}
 use lib.ListN.{getD}
-use Rattle.trees.proofs.ShapeSteps.{unit-le, units-le, tip-entries}
+use Rattle.trees.proofs.NodeLaws.{unit-le, units-le, tip-entries}
 use Rattle.trees.proofs.nodes.tip_at.Statement.{statement}
 use Rattle.trees.proofs.nodes.tip_at.Tie as tie
 

@@ -8,7 +8,7 @@ use borrow.Author.Needs.{needs}
 use lib.ListN.{length}
 use Rattle.parsimony.specs.Table.{nodeAt, tips}
 use Rattle.trees.specs.NodeOf.{kindOf}
-use Rattle.trees.proofs.ShapeSteps.{tips-none, tips-step}
+use Rattle.trees.proofs.NodeLaws.{tips-none, tips-step}
 use Rattle.trees.proofs.nodes.tips_of.Statement.{statement}
 use Rattle.trees.proofs.nodes.tips_of.Tie as tie
 

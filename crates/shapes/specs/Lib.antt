@@ -1,0 +1,5 @@
+-- What the test of a tree says, over the definitions of `parsimony`.
+-- Assumes nothing.
+pub mod Found
+pub mod Marks
+pub mod Visit

@@ -1,0 +1,3 @@
+-- Laws of the tests of starts.
+-- Assumes nothing.
+pub mod StartLaws
