@@ -24,10 +24,11 @@ use Rattle.answers.specs.declared.Refusal.{Refusal}
 use Rattle.answers.specs.declared.Start.the-variants.{Free}
 use Rattle.answers.proofs.RootLaws.{rules-sound}
 use Rattle.answers.proofs.RuleLaws.{all-not-first}
-use Rattle.scorer.specs.Promises.{WorkWritten, ColumnWorked}
+use Rattle.works.specs.Written.{WorkWritten}
+use Rattle.works.proofs.Meaning.{score-meant, label-meant, set-of, set-meant}
+use Rattle.scorer.specs.Promises.{ColumnWorked}
 use Rattle.scorer.specs.declared.Work.{Work}
 use Rattle.scorer.specs.declared.Work.the-variants as Work
-use Rattle.scorer.proofs.Meaning.{score-meant, label-meant, set-of, set-meant}
 use Rattle.texts.specs.Put.{Put}
 use Rattle.texts.proofs.DecimalLaws.{decimal-length}
 use Rattle.reports.specs.Letters.{letters}

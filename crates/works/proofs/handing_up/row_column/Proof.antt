@@ -7,13 +7,13 @@ use borrow.Author.Needs.{needs}
 use lib.ListN.{length}
 use Rattle.answers.proofs.RootLaws.{rules-node}
 use Rattle.answers.specs.Input.{Input, input, nodes}
-use Rattle.scorer.proofs.ResultLaws.{row-right}
-use Rattle.scorer.proofs.RuleParts.{hand-up-parts}
+use Rattle.works.proofs.ResultLaws.{row-right}
+use Rattle.works.proofs.RuleParts.{hand-up-parts}
 use Rattle.roots.proofs.RootSteps.{root-inside}
-use Rattle.scorer.proofs.handing_up.row_column.Statement.{statement}
+use Rattle.works.proofs.handing_up.row_column.Statement.{statement}
 use Rattle.steps.specs.Lane.{entryAt}
 use Rattle.steps.specs.Wrote.{Wrote}
-use Rattle.scorer.proofs.handing_up.row_column.Tie as tie
+use Rattle.works.proofs.handing_up.row_column.Tie as tie
 
 -- the table that is given
 abbrev table : tie.Start → Input

@@ -34,9 +34,9 @@ use Rattle.descents.specs.Down.{chosen, settled}
 use Rattle.columns.specs.RowRoom.{Holds}
 use Rattle.steps.specs.Lane.{entryAt}
 use Rattle.steps.specs.Wrote.{Wrote}
-use Rattle.scorer.specs.Lent.{Listed}
-use Rattle.scorer.specs.Results.{IsEntry}
-use Rattle.scorer.proofs.LinkLaws.{chosen-is, settled-is}
+use Rattle.works.specs.Lent.{Listed}
+use Rattle.works.specs.Results.{IsEntry}
+use Rattle.works.proofs.LinkLaws.{chosen-is, settled-is}
 
 -- the root's row has in each entry the least cost with that root, or is barred where there is none
 pub row-entry : (P : Column) → Sound mostHanded P → (x : ℕ) → x < P .states → IsEntry P x (row P (P .last) x)

@@ -8,12 +8,12 @@ use lib.ListN.{length}
 use Rattle.answers.proofs.RootLaws.{rules-node, rules-legal}
 use Rattle.answers.specs.Input.{Input, input, nodes}
 use Rattle.answers.specs.declared.Start.the-variants.{Free}
-use Rattle.scorer.proofs.LinkLaws.{rules-state, rules-calm, least-is}
-use Rattle.scorer.proofs.Meaning.{score-right}
-use Rattle.scorer.proofs.RuleParts.{work-parts}
-use Rattle.scorer.proofs.StartSteps.{labels-right, sets-right}
-use Rattle.scorer.proofs.whole_work.fill_column.Statement.{statement}
-use Rattle.scorer.proofs.whole_work.fill_column.Tie as tie
+use Rattle.works.proofs.LinkLaws.{rules-state, rules-calm, least-is}
+use Rattle.works.proofs.Meaning.{score-right}
+use Rattle.works.proofs.RuleParts.{work-parts}
+use Rattle.works.proofs.StartSteps.{labels-right, sets-right}
+use Rattle.works.proofs.whole_work.fill_column.Statement.{statement}
+use Rattle.works.proofs.whole_work.fill_column.Tie as tie
 
 -- the table that is given
 abbrev table : tie.Start → Input

@@ -36,9 +36,8 @@ use Rattle.answers.specs.declared.Start.{Start}
 use Rattle.answers.specs.declared.Start.the-variants.{Free, Given}
 use Rattle.answers.proofs.RootLaws.{rules-sound}
 use Rattle.roots.specs.Starts.{stateOf}
-use Rattle.scorer.specs.Results.{StartLabels, IsLabelling, IsSet}
-use Rattle.scorer.proofs.LabelOutcomes.{label-unique}
-use Rattle.scorer.proofs.Outcomes.{set-unique}
+use Rattle.works.specs.Results.{StartLabels, IsLabelling, IsSet}
+use Rattle.works.proofs.ResultUnique.{label-unique, set-unique}
 
 -- a labelling with the same states as a least one is least
 least-same : (P : Column) → Rooted (P .last) (P .kids) → (l m : ℕ → ℕ) → ((v : ℕ) → v ≤ P .last → l v ≡ m v)

@@ -9,8 +9,8 @@ use lib.Seq.{getD-set-same, getD-set-other}
 use Rattle.parsimony.specs.Labelling.{IsScore}
 use Rattle.parsimony.proofs.Order.{by-eq}
 use Rattle.answers.specs.Input.{Input, nodes, column}
-use Rattle.scorer.specs.Lent.{Listed}
-use Rattle.scorer.specs.Promises.{Worked, ScoresWritten}
+use Rattle.works.specs.Lent.{Listed}
+use Rattle.works.specs.Written.{Worked, ScoresWritten}
 
 -- the columns below j are scored
 pub record ScoresTo (I : Input) (j : ℕ) (scores rows scores' rows' : List ℕ) : Type 0 where

@@ -5,7 +5,7 @@ ghost use lib.ListN.{length};
 ghost use Rattle.answers.specs.CallRules.{tableRules};
 ghost use Rattle.answers.specs.Input.{input};
 ghost use Rattle.answers.specs.Rules.{All};
-ghost use Rattle.scorer.specs.Promises.{Worked};
+ghost use Rattle.works.specs.Written.{Worked};
 use columns::up::fill_rows;
 use trees::nodes::tips_of;
 

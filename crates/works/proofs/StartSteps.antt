@@ -21,10 +21,10 @@ use Rattle.descents.specs.Down.{chosen, settled}
 use Rattle.columns.specs.RowRoom.{Holds}
 use Rattle.steps.specs.Lane.{entryAt, leastSet}
 use Rattle.roots.specs.Starts.{stateOf}
-use Rattle.scorer.specs.Results.{IsLabelling, IsSet}
-use Rattle.scorer.proofs.LinkLaws.{rules-state, start-is, start-set-is}
-use Rattle.scorer.proofs.Meaning.{labelling-same, labelling-of, start-within, set-of}
-use Rattle.scorer.proofs.ResultLaws.{Chosen, Settled, labels-are, sets-are}
+use Rattle.works.specs.Results.{IsLabelling, IsSet}
+use Rattle.works.proofs.LinkLaws.{rules-state, start-is, start-set-is}
+use Rattle.works.proofs.Meaning.{labelling-same, labelling-of, start-within, set-of}
+use Rattle.works.proofs.ResultLaws.{Chosen, Settled, labels-are, sets-are}
 
 module _ (I : Input) (rules : All (tableRules I [])) (j : ℕ) (inside : j < I .c) where
   -- a start state is a state

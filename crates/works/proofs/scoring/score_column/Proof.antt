@@ -4,11 +4,11 @@ use mathlib.Core.Path.{_∙_}
 use borrow.Author.Needs.{needs}
 use lib.ListN.{length}
 use Rattle.answers.specs.Input.{Input, input}
-use Rattle.scorer.proofs.LinkLaws.{least-is}
-use Rattle.scorer.proofs.Meaning.{score-right}
-use Rattle.scorer.proofs.RuleParts.{score-parts}
-use Rattle.scorer.proofs.scoring.score_column.Statement.{statement}
-use Rattle.scorer.proofs.scoring.score_column.Tie as tie
+use Rattle.works.proofs.LinkLaws.{least-is}
+use Rattle.works.proofs.Meaning.{score-right}
+use Rattle.works.proofs.RuleParts.{score-parts}
+use Rattle.works.proofs.scoring.score_column.Statement.{statement}
+use Rattle.works.proofs.scoring.score_column.Tie as tie
 
 -- the table that is given
 abbrev table : tie.Start → Input

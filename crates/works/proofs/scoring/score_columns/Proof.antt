@@ -5,10 +5,10 @@ use native.Mathlib.Nat.{le-refl}
 use native.Mathlib.Omega.{arith}
 use lib.ListN.{length}
 use Rattle.answers.specs.Input.{Input, input}
-use Rattle.scorer.proofs.RuleParts.{score-parts}
-use Rattle.scorer.proofs.ScoreSteps.{ScoresTo, scores-none, scores-more, scores-all}
-use Rattle.scorer.proofs.scoring.score_columns.Statement.{statement}
-use Rattle.scorer.proofs.scoring.score_columns.Tie as tie
+use Rattle.works.proofs.RuleParts.{score-parts}
+use Rattle.works.proofs.ScoreSteps.{ScoresTo, scores-none, scores-more, scores-all}
+use Rattle.works.proofs.scoring.score_columns.Statement.{statement}
+use Rattle.works.proofs.scoring.score_columns.Tie as tie
 
 abbrev Inv-loop : tie.InvT-loop
 Inv-loop left right s costs c cells handed scores₀ rows₀ h j₀ scores rows j =
