@@ -4,10 +4,10 @@ use Prim.Native.Nat.{_-_}
 use native.Mathlib.Omega.{arith}
 use borrow.Author.Needs.{needs}
 use lib.ListN.{getD}
-use Rattle.reports.proofs.LineSteps.{Lettered, lettered-none, lettered-more, lettered-all}
-use Rattle.reports.proofs.column.put_letters.Statement.{statement}
+use Rattle.marks.proofs.LetterLaws.{Lettered, lettered-none, lettered-more, lettered-all}
+use Rattle.marks.proofs.letters.put_letters.Statement.{statement}
 use Rattle.texts.proofs.PutLaws.{put-long}
-use Rattle.reports.proofs.column.put_letters.Tie as tie
+use Rattle.marks.proofs.letters.put_letters.Tie as tie
 
 abbrev Inv-loop : tie.InvT-loop
 Inv-loop states n line₀ at v₀ line v = Lettered (λ u. getD states u 0) n at line₀ line v

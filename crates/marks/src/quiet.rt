@@ -2,7 +2,7 @@
 ghost use mathlib.Core.Path.{_≡_};
 ghost use Prim.Native.Nat.{_<_, _≤_};
 ghost use Rattle.parsimony.specs.Test.{at};
-ghost use Rattle.reports.specs.Quiet.{tally, often, quietMark};
+ghost use Rattle.marks.specs.Quiet.{tally, often, quietMark};
 use states::States;
 
 // 1 where the cell is the set, else 0.

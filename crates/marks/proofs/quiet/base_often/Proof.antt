@@ -2,9 +2,9 @@
 -- Assumes nothing.
 use native.Mathlib.Omega.{arith}
 use borrow.Author.Needs.{needs}
-use Rattle.reports.proofs.QuietSteps.{often-no, often-yes}
-use Rattle.reports.proofs.quiet.base_often.Statement.{statement}
-use Rattle.reports.proofs.quiet.base_often.Tie as tie
+use Rattle.marks.proofs.QuietSteps.{often-no, often-yes}
+use Rattle.marks.proofs.quiet.base_often.Statement.{statement}
+use Rattle.marks.proofs.quiet.base_often.Tie as tie
 
 one-requires : tie.Need-one-requires
 one-requires c κs = search needs

@@ -4,9 +4,9 @@ use Prim.Native.Nat.{_-_}
 use native.Mathlib.Omega.{arith}
 use borrow.Author.Needs.{needs}
 use lib.ListN.{getD}
-use Rattle.reports.proofs.LineSteps.{Counted, counted-none, counted-more, counted-most, counted-all}
-use Rattle.reports.proofs.column.one_states.Statement.{statement}
-use Rattle.reports.proofs.column.one_states.Tie as tie
+use Rattle.marks.proofs.OneStateLaws.{Counted, counted-none, counted-more, counted-most, counted-all}
+use Rattle.marks.proofs.ones.one_states.Statement.{statement}
+use Rattle.marks.proofs.ones.one_states.Tie as tie
 
 abbrev Inv-loop : tie.InvT-loop
 Inv-loop sets n count₀ v₀ count v = Counted 16 (λ u. getD sets u 0) n count v

@@ -3,8 +3,8 @@
 use mathlib.Core.Path.{sym}
 use native.Mathlib.Omega.{arith}
 use Rattle.parsimony.proofs.Order.{at-same, at-other}
-use Rattle.reports.proofs.quiet.same.Statement.{statement}
-use Rattle.reports.proofs.quiet.same.Tie as tie
+use Rattle.marks.proofs.quiet.same.Statement.{statement}
+use Rattle.marks.proofs.quiet.same.Tie as tie
 
 returns : tie.Need-returns
 returns c =

@@ -11,7 +11,7 @@ use Rattle.parsimony.specs.StateSet.{one}
 use Rattle.parsimony.specs.Sum.{sum}
 use Rattle.parsimony.specs.Test.{at}
 use Rattle.parsimony.proofs.Order.{pick-true, pick-false}
-use Rattle.reports.specs.Quiet.{tally, often, quietMark}
+use Rattle.marks.specs.Quiet.{tally, often, quietMark}
 
 -- of the first i cells so many are the set w
 pub record Tallied (w : ℕ) (cells : List ℕ) (count i : ℕ) : Type 0 where

@@ -3,9 +3,9 @@
 use Prim.Native.Nat.{_-_}
 use borrow.Author.Needs.{needs}
 use lib.ListN.{length}
-use Rattle.reports.proofs.QuietSteps.{Tallied, tallied-none, tallied-more, tallied-all}
-use Rattle.reports.proofs.quiet.count_cells.Statement.{statement}
-use Rattle.reports.proofs.quiet.count_cells.Tie as tie
+use Rattle.marks.proofs.QuietSteps.{Tallied, tallied-none, tallied-more, tallied-all}
+use Rattle.marks.proofs.quiet.count_cells.Statement.{statement}
+use Rattle.marks.proofs.quiet.count_cells.Tie as tie
 
 abbrev Inv-loop : tie.InvT-loop
 Inv-loop cells set count₀ i₀ count i = Tallied set cells count i

@@ -1,8 +1,8 @@
 -- `letter` meets its contract: one state after the other.
 -- Assumes nothing.
-use Rattle.reports.proofs.LineLaws.{letter-0, letter-1, letter-2, letter-last}
-use Rattle.reports.proofs.column.letter.Statement.{statement}
-use Rattle.reports.proofs.column.letter.Tie as tie
+use Rattle.marks.proofs.LetterLaws.{letter-0, letter-1, letter-2, letter-last}
+use Rattle.marks.proofs.letters.letter.Statement.{statement}
+use Rattle.marks.proofs.letters.letter.Tie as tie
 
 returns : tie.Need-returns
 returns c = letter-0 (c .if1 .taken)

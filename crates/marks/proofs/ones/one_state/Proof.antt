@@ -2,9 +2,9 @@
 -- Assumes nothing.
 use native.Mathlib.Omega.{arith}
 use borrow.Author.Needs.{needs}
-use Rattle.reports.proofs.LineLaws.{single-yes, single-no}
-use Rattle.reports.proofs.column.one_state.Statement.{statement}
-use Rattle.reports.proofs.column.one_state.Tie as tie
+use Rattle.marks.proofs.OneStateLaws.{single-yes, single-no}
+use Rattle.marks.proofs.ones.one_state.Statement.{statement}
+use Rattle.marks.proofs.ones.one_state.Tie as tie
 
 count-requires : tie.Need-count-requires
 count-requires c κs = search needs

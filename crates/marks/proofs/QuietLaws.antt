@@ -1,17 +1,20 @@
 -- What the quiet mark says: a column is not quiet exactly where two bases each occur at two or more tips as plain ones.
 -- Assumes nothing.
+use mathlib.Core.Bool.{Bool, true, false}
 use mathlib.Core.List.{List}
 use mathlib.Core.Logic.{_↔_}
 use mathlib.Core.Path.{_≡_, refl}
 use Prim.Native.Nat.{ℕ, zero, suc, _≤_, _<_}
 use native.Mathlib.Omega.{arith}
 use borrow.Author.Tests.{lt-ltb, le-ltb}
+use lib.Dec.{ltb}
 use Rattle.parsimony.specs.StateSet.{one}
 use Rattle.parsimony.specs.Sum.{sum}
+use Rattle.parsimony.specs.Test.{pick}
 use Rattle.parsimony.proofs.Order.{by-lt, pick-true, pick-false}
 use Rattle.parsimony.proofs.Sums.{sum-zero, sum-suc, sum-some, sum-two}
-use Rattle.reports.specs.Quiet.{tally, often, quietMark}
-use Rattle.reports.proofs.QuietSteps.{often-no, often-yes}
+use Rattle.marks.specs.Quiet.{tally, often, quietMark}
+use Rattle.marks.proofs.QuietSteps.{often-no, often-yes}
 
 -- two bases each occur at two or more tips as plain ones
 abbrev pub TwoBases : List ℕ → Type 0
@@ -53,3 +56,13 @@ quiet-means cells = (
       let both = sum-two (often cells) 4 x y below in-range in
       pick-false {A = ℕ} 1 0 (le-ltb (sum (often cells) 4) 2 (omega arith))),
 )
+
+-- a mark has one digit
+mark-small : (b : Bool) → pick b 1 0 < 10
+unfolding pick
+mark-small true = omega arith
+mark-small false = omega arith
+
+pub quiet-small : (cells : List ℕ) → quietMark cells < 10
+unfolding quietMark
+quiet-small cells = mark-small (ltb (sum (often cells) 4) 2)

@@ -2,9 +2,9 @@
 -- Assumes nothing.
 use native.Mathlib.Omega.{arith}
 use borrow.Author.Needs.{needs}
-use Rattle.reports.proofs.QuietSteps.{quiet-yes, quiet-no}
-use Rattle.reports.proofs.quiet.quiet_mark.Statement.{statement}
-use Rattle.reports.proofs.quiet.quiet_mark.Tie as tie
+use Rattle.marks.proofs.QuietSteps.{quiet-yes, quiet-no}
+use Rattle.marks.proofs.quiet.quiet_mark.Statement.{statement}
+use Rattle.marks.proofs.quiet.quiet_mark.Tie as tie
 
 base-often-requires : tie.Need-base-often-requires
 base-often-requires c κs = search needs
