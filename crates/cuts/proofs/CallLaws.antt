@@ -22,10 +22,10 @@ use Rattle.answers.specs.declared.Start.the-variants.{Given}
 use Rattle.answers.proofs.RootLaws.{rules-sound}
 use Rattle.answers.proofs.RuleLaws.{all-not-first}
 use Rattle.roots.specs.Starts.{stateOf}
+use Rattle.works.proofs.Meaning.{score-meant, label-meant, set-meant}
+use Rattle.works.proofs.ResultUnique.{entry-unique}
+use Rattle.works.proofs.ResultLaws.{row-entry}
 use Rattle.scorer.specs.Promises.{Scored, Labelled, SetsFound, HandedUp}
-use Rattle.scorer.proofs.Meaning.{score-meant, label-meant, set-meant}
-use Rattle.scorer.proofs.Outcomes.{entry-unique}
-use Rattle.scorer.proofs.ResultLaws.{row-entry}
 use Rattle.cuts.specs.Call.{ScoreCall, HandUpCall, LabelCall, SetsCall}
 use Rattle.answers.specs.Answers as Answers
 use Rattle.cuts.specs.Call as Call

@@ -20,10 +20,11 @@ use Rattle.answers.specs.declared.Answer.the-variants.{Done}
 use Rattle.answers.specs.declared.Start.{Start}
 use Rattle.answers.proofs.RootLaws.{rules-node, rules-sound}
 use Rattle.roots.specs.Starts.{stateOf}
-use Rattle.scorer.specs.Promises.{Worked, Scored, Labelled, SetsFound, HandedUp}
-use Rattle.scorer.specs.Results.{IsSet, IsEntry}
-use Rattle.scorer.proofs.Meaning.{score-right, labelling-same, labelling-of, set-of}
-use Rattle.scorer.proofs.ResultLaws.{row-entry}
+use Rattle.works.specs.Written.{Worked}
+use Rattle.works.specs.Results.{IsSet, IsEntry}
+use Rattle.works.proofs.Meaning.{score-right, labelling-same, labelling-of, set-of}
+use Rattle.works.proofs.ResultLaws.{row-entry}
+use Rattle.scorer.specs.Promises.{Scored, Labelled, SetsFound, HandedUp}
 use Rattle.cuts.proofs.WriteLaws.{list-made, rows-made}
 
 -- the rules of a call: those of the table, what it asks of the column and the start, and the room

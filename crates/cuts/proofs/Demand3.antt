@@ -29,9 +29,9 @@ use Rattle.answers.specs.Starts.{StateStart, SetStart}
 use Rattle.answers.specs.declared.Start.{Start}
 use Rattle.answers.proofs.RootLaws.{rules-legal, rules-sound}
 use Rattle.roots.specs.Starts.{stateOf}
-use Rattle.scorer.specs.Results.{IsLabelling, IsSet, IsEntry}
-use Rattle.scorer.proofs.ResultLaws.{row-entry}
-use Rattle.scorer.proofs.Meaning.{labelling-same, labelling-of, set-of}
+use Rattle.works.specs.Results.{IsLabelling, IsSet, IsEntry}
+use Rattle.works.proofs.ResultLaws.{row-entry}
+use Rattle.works.proofs.Meaning.{labelling-same, labelling-of, set-of}
 use Rattle.cuts.specs.Call.{Answers}
 use Rattle.cuts.specs.Cut.{CutAt, part}
 use Rattle.cuts.specs.Cuttable.{Cuttable}

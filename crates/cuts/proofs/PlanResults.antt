@@ -17,7 +17,7 @@ use Rattle.answers.specs.declared.Start.{Start}
 use Rattle.answers.specs.declared.Start.the-variants.{Given}
 use Rattle.answers.proofs.RootLaws.{rules-sound, rules-node}
 use Rattle.roots.specs.Starts.{stateOf}
-use Rattle.scorer.proofs.Meaning.{set-of}
+use Rattle.works.proofs.Meaning.{set-of}
 use Rattle.cuts.specs.Call.{LabelCall, SetsCall, Answers}
 use Rattle.cuts.specs.Cut.{CutAt, part, rest, partNode, restNode, inPart, inRest, span}
 use Rattle.cuts.specs.Cuttable.{Cuttable}

@@ -22,8 +22,8 @@ use Rattle.answers.specs.declared.Start.{Start}
 use Rattle.answers.specs.declared.Start.the-variants.{Free, Given}
 use Rattle.answers.proofs.RootLaws.{rules-sound}
 use Rattle.roots.specs.Starts.{stateOf}
-use Rattle.scorer.specs.Results.{StartLabels, TakenBy}
-use Rattle.scorer.proofs.Meaning.{labelling-of, set-of}
+use Rattle.works.specs.Results.{StartLabels, TakenBy}
+use Rattle.works.proofs.Meaning.{labelling-of, set-of}
 use Rattle.cuts.specs.Cut.{CutAt, part, inPart}
 use Rattle.cuts.specs.Cuttable.{Cuttable}
 use Rattle.cuts.proofs.CutLaws.{part-stands}

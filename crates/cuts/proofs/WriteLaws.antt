@@ -10,7 +10,7 @@ use Rattle.parsimony.specs.Filled.{listOf}
 use Rattle.parsimony.proofs.ColumnLaws.{place}
 use Rattle.parsimony.proofs.FilledLaws.{list-long, list-at}
 use Rattle.columns.specs.RowRoom.{RowRoom}
-use Rattle.scorer.specs.Lent.{Kept}
+use Rattle.works.specs.Lent.{Kept}
 use Rattle.cuts.specs.Filled.{cellsBy}
 use Rattle.cuts.proofs.FilledLaws.{cells-long, cells-at}
 

@@ -1,4 +1,4 @@
--- The report of the paper, and columns that are not quiet, by computation.
+-- The report of the paper, and a column that is not quiet, by computation.
 -- Assumes nothing.
 use mathlib.Core.List.{List, [], _∷_}
 use mathlib.Core.Path.{_≡_, refl}
@@ -7,7 +7,6 @@ use Rattle.answers.specs.Input.{Input, input}
 use Rattle.lines.specs.Bytes.{bytes}
 use Rattle.reports.specs.Frame.{columnsLine, totalLine, refusedLine}
 use Rattle.reports.specs.Line.{lineOf}
-use Rattle.reports.specs.Quiet.{quietMark}
 
 -- unit costs of four states
 abbrev unit : List ℕ
@@ -32,21 +31,6 @@ pub report-loud : lineOf (input (65535 ∷ 65535 ∷ 0 ∷ 65535 ∷ 65535 ∷ 3
     1 (1 ∷ 1 ∷ 4 ∷ 4 ∷ []) []) 12 ≡ bytes "12 1 0 6 AAAGGGA"
 unfolding lineOf bytes
 report-loud = refl
-
--- C, C, T, Y: what Y stands for counts for no base
-pub quiet-codes : quietMark (2 ∷ 2 ∷ 8 ∷ 10 ∷ []) ≡ 1
-unfolding quietMark
-quiet-codes = refl
-
--- C, C, T, T
-pub quiet-no : quietMark (2 ∷ 8 ∷ 2 ∷ 8 ∷ []) ≡ 0
-unfolding quietMark
-quiet-no = refl
-
--- one base at every tip
-pub quiet-one-base : quietMark (8 ∷ 8 ∷ 8 ∷ 8 ∷ []) ≡ 1
-unfolding quietMark
-quiet-one-base = refl
 
 pub columns-2 : columnsLine 2 ≡ bytes "columns 2\n"
 unfolding columnsLine bytes

@@ -2,8 +2,6 @@
 -- Assumes nothing.
 pub mod LineLaws
 pub mod LineSteps
-pub mod QuietSteps
-pub mod QuietLaws
 pub mod ReportLaws
 pub mod Outcomes
 pub mod Cases

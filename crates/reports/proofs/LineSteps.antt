@@ -1,47 +1,16 @@
--- A line put part by part: its letters one by one, its fields, and the word and number of the other lines.
+-- A line put part by part: its fields, and the word and number of the other lines.
 -- Assumes nothing.
-use mathlib.Core.List.{List, [], _∷_, _++_}
-use mathlib.Core.Path.{_≡_, refl, ap, sym, _∙_, subst}
-use Prim.Native.Nat.{ℕ, _+_, _≤_, _<_}
+use mathlib.Core.List.{List, [], _∷_}
+use mathlib.Core.Path.{ap, _∙_}
+use Prim.Native.Nat.{ℕ, _≤_}
 use native.Mathlib.Omega.{arith}
-use lib.ListN.{length, length-append, set, drop}
+use lib.ListN.{length, length-append, drop}
 use Rattle.texts.specs.Decimal.{decimal}
 use Rattle.texts.specs.Put.{Put}
-use Rattle.texts.proofs.PutLaws.{put-then, put-one, put-whole}
+use Rattle.texts.proofs.PutLaws.{put-then, put-whole}
 use Rattle.reports.specs.Frame.{wordLine}
-use Rattle.reports.specs.Letters.{letterOf, letters}
 use Rattle.reports.specs.Line.{field, lineText}
-use Rattle.reports.specs.OneState.{single, oneStates}
 use Rattle.reports.specs.Reports.{Starts}
-use Rattle.reports.proofs.LineLaws.{letters-more, ones-more, ones-most}
-
--- the letters of the first v of n nodes are put
-pub record Lettered (l : ℕ → ℕ) (n at : ℕ) (line now : List ℕ) (v : ℕ) : Type 0 where
-  pub few : v ≤ n
-  pub put : Put (letters l v) at line now (at + v)
-
--- none at the start
-pub lettered-none : (l : ℕ → ℕ) (n at : ℕ) (line : List ℕ) → Lettered l n at line line 0
-unfolding letters
-lettered-none l n at line = record { few = omega arith; put = record { written = refl; end = omega arith } }
-
--- one letter more
-pub lettered-more : (l : ℕ → ℕ) (n at : ℕ) (line now : List ℕ) (v byte : ℕ) → v < n → byte ≡ letterOf (l v)
-    → Lettered l n at line now v → Lettered l n at line (set now (at + v) byte) (v + 1)
-lettered-more l n at line now v byte inside is so-far =
-    record {
-      few = omega arith;
-      put = subst (λ text. Put text at line (set now (at + v) byte) (at + (v + 1)))
-          (ap (λ b. letters l v ++ (b ∷ [])) is ∙ sym (letters-more l v))
-          (put-then (so-far .put) (put-one byte now (at + v) (at + (v + 1)) (omega arith)));
-    }
-
--- all letters
-pub lettered-all : {l : ℕ → ℕ} {n at v : ℕ} {line now : List ℕ} → n ≤ v → Lettered l n at line now v
-    → Put (letters l n) at line now (at + n)
-lettered-all {l} {n} {at} {v} {line} {now} over so-far =
-    let same : v ≡ n = omega (arith, so-far .few) in
-    subst (λ k. Put (letters l k) at line now (at + k)) same (so-far .put)
 
 -- a number and a space are a field
 pub put-space : (n : ℕ) {at between next : ℕ} {before middle after : List ℕ} → Put (decimal n) at before middle between
@@ -74,27 +43,3 @@ starts-inside {text} {before} {after} {size} is =
     let long = ap length (is .bytes) ∙ length-append text (drop (length text) before) in
     let same = is .long in
     omega arith
-
--- of the first v of n sets so many have one of s states
-pub record Counted (s : ℕ) (S : ℕ → ℕ) (n count v : ℕ) : Type 0 where
-  pub few : v ≤ n
-  pub is : count ≡ oneStates s S v
-
--- none at the start
-pub counted-none : (s : ℕ) (S : ℕ → ℕ) (n : ℕ) → Counted s S n 0 0
-counted-none s S n = record { few = omega arith; is = let most = ones-most s S 0 in omega arith }
-
--- one set more
-pub counted-more : (s : ℕ) (S : ℕ → ℕ) (n count v here : ℕ) → v < n → here ≡ single s (S v) → Counted s S n count v
-    → Counted s S n (count + here) (v + 1)
-counted-more s S n count v here inside one so-far =
-    record { few = omega arith; is = let more = ones-more s S v in omega (arith, so-far .is) }
-
--- no more than there are sets
-pub counted-most : {s n count v : ℕ} {S : ℕ → ℕ} → Counted s S n count v → count ≤ v
-counted-most {s} {n} {count} {v} {S} so-far = let most = ones-most s S v in omega (arith, so-far .is)
-
--- all sets
-pub counted-all : {s n count v : ℕ} {S : ℕ → ℕ} → n ≤ v → Counted s S n count v → count ≡ oneStates s S n
-counted-all {s} {n} {count} {v} {S} over so-far =
-    let same : v ≡ n = omega (arith, so-far .few) in so-far .is ∙ ap (oneStates s S) same

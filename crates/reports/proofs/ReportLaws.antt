@@ -1,11 +1,9 @@
 -- From what the scorer promises to the column's line: its parts, its bytes and its length.
 -- Assumes nothing.
-use mathlib.Core.Bool.{Bool, true, false}
 use mathlib.Core.List.{List, []}
 use mathlib.Core.Path.{_≡_, ap₂, _∙_, subst}
 use Prim.Native.Nat.{ℕ, _*_, _^_, _≤_, _<_}
 use native.Mathlib.Omega.{arith}
-use lib.Dec.{ltb}
 use lib.ListN.{length, getD}
 use lib.Pow.{pow-mono}
 use Rattle.parsimony.specs.Allowed.{mostHanded}
@@ -13,8 +11,6 @@ use Rattle.parsimony.specs.Column.{Column, columnOf}
 use Rattle.parsimony.specs.Label.{label}
 use Rattle.parsimony.specs.NodeSet.{sets}
 use Rattle.parsimony.specs.Row.{score}
-use Rattle.parsimony.specs.Sum.{sum}
-use Rattle.parsimony.specs.Test.{pick}
 use Rattle.parsimony.proofs.Scoring.{score-open}
 use Rattle.answers.specs.Answers.{placeOf}
 use Rattle.answers.specs.CallRules.{tableRules, workRules}
@@ -24,36 +20,23 @@ use Rattle.answers.specs.declared.Refusal.{Refusal}
 use Rattle.answers.specs.declared.Start.the-variants.{Free}
 use Rattle.answers.proofs.RootLaws.{rules-sound}
 use Rattle.answers.proofs.RuleLaws.{all-not-first}
-use Rattle.scorer.specs.Promises.{WorkWritten, ColumnWorked}
+use Rattle.works.specs.Written.{WorkWritten}
+use Rattle.works.proofs.Meaning.{score-meant, label-meant, set-of, set-meant}
+use Rattle.scorer.specs.Promises.{ColumnWorked}
 use Rattle.scorer.specs.declared.Work.{Work}
 use Rattle.scorer.specs.declared.Work.the-variants as Work
-use Rattle.scorer.proofs.Meaning.{score-meant, label-meant, set-of, set-meant}
+use Rattle.marks.specs.Letters.{letters}
+use Rattle.marks.specs.OneState.{oneStates}
+use Rattle.marks.specs.Quiet.{quietMark}
+use Rattle.marks.proofs.LetterLaws.{letters-length, letters-same}
+use Rattle.marks.proofs.OneStateLaws.{ones-same, ones-most}
+use Rattle.marks.proofs.QuietLaws.{quiet-small}
 use Rattle.texts.specs.Put.{Put}
 use Rattle.texts.proofs.DecimalLaws.{decimal-length}
-use Rattle.reports.specs.Letters.{letters}
 use Rattle.reports.specs.Line.{lineText, lineOf}
-use Rattle.reports.specs.OneState.{oneStates}
-use Rattle.reports.specs.Quiet.{often, quietMark}
 use Rattle.reports.specs.Reports.{Reported}
-use Rattle.reports.proofs.LineLaws.{
-  letters-length,
-  letters-same,
-  field-length,
-  line-length,
-  ones-same,
-  ones-most,
-}
+use Rattle.reports.proofs.LineLaws.{field-length, line-length}
 use Rattle.reports.proofs.LineSteps.{starts}
-
--- a mark has one digit
-mark-small : (b : Bool) → pick b 1 0 < 10
-unfolding pick
-mark-small true = omega arith
-mark-small false = omega arith
-
-quiet-small : (cells : List ℕ) → quietMark cells < 10
-unfolding quietMark
-quiet-small cells = mark-small (ltb (sum (often cells) 4) 2)
 
 module _ (I : Input) (rules : All (tableRules I [])) (inside : 0 < I .c) where
   abbrev P : Column

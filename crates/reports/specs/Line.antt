@@ -8,9 +8,9 @@ use Rattle.parsimony.specs.NodeSet.{sets}
 use Rattle.parsimony.specs.Row.{score}
 use Rattle.answers.specs.Input.{Input, nodes, column}
 use Rattle.texts.specs.Decimal.{decimal}
-use Rattle.reports.specs.Letters.{letters}
-use Rattle.reports.specs.OneState.{oneStates}
-use Rattle.reports.specs.Quiet.{quietMark}
+use Rattle.marks.specs.Letters.{letters}
+use Rattle.marks.specs.OneState.{oneStates}
+use Rattle.marks.specs.Quiet.{quietMark}
 
 -- a number and the space after it
 unfoldable pub field : ℕ → List ℕ

@@ -6,7 +6,7 @@ use Prim.Native.Nat.{ℕ}
 use lib.ListN.{length, drop}
 use Rattle.parsimony.specs.Row.{score}
 use Rattle.answers.specs.Input.{Input, column}
-use Rattle.scorer.specs.Promises.{WorkWritten}
+use Rattle.works.specs.Written.{WorkWritten}
 use Rattle.reports.specs.Line.{lineOf}
 
 -- the line starts with the text, so many bytes long, and is as before after it

@@ -6,15 +6,15 @@ ghost use lib.ListN.{length, getD};
 ghost use Rattle.answers.specs.CallRules.{tableRules};
 ghost use Rattle.answers.specs.Input.{input};
 ghost use Rattle.answers.specs.Rules.{All};
+ghost use Rattle.marks.specs.Letters.{letters};
 ghost use Rattle.texts.specs.Put.{Put};
-ghost use Rattle.reports.specs.Letters.{letterOf, letters};
 ghost use Rattle.reports.specs.Line.{field, lineText};
-ghost use Rattle.reports.specs.OneState.{single, oneStates};
 ghost use Rattle.reports.specs.Reports.{Reported};
-use crate::quiet::quiet_mark;
+use marks::letters::put_letters;
+use marks::ones::one_states;
+use marks::quiet::quiet_mark;
 use scorer::Work;
 use scorer::work_column;
-use states::States;
 use texts::put_byte;
 use texts::put_number;
 
@@ -30,36 +30,6 @@ fn wide(x: u32) -> usize
     ensures { λ r. ⌜ r ≡ x ⌝ }
 {
     x as usize
-}
-
-// The letter of a state.
-fn letter(state: u8) -> u8
-    ensures { λ r. ⌜ r ≡ letterOf state ⌝ }
-{
-    if state == 0 {
-        return 65;
-    }
-    if state == 1 {
-        return 67;
-    }
-    if state == 2 {
-        return 71;
-    }
-    84
-}
-
-// Puts the letters of the first n states, and answers the place after them.
-fn put_letters(states: &[u8], n: usize, line: &mut [u8], at: usize) -> usize
-    requires { ⌜ (n ≤ length (now states)) × (at + n ≤ length (now line)) ⌝ }
-    ensures { λ r. ⌜ Put (letters (λ (v : ℕ). getD (now (states .entry)) v 0) n) at (now (line .entry))
-        (now (line .exit)) r ⌝ }
-{
-    let mut v = 0;
-    while v < n {
-        line[at + v] = letter(states[v]);
-        v += 1;
-    }
-    at + n
 }
 
 // Puts a number and a space, and answers the place after them.
@@ -92,30 +62,6 @@ fn put_line(
     let ones_at = put_field(quiet, line, quiet_at);
     let letters_at = put_field(ones, line, ones_at);
     put_letters(states, n, line, letters_at)
-}
-
-// 1 where the set has one state, else 0.
-fn one_state(set: u16) -> usize
-    ensures { λ r. ⌜ (r ≡ single 16 set) × (r ≤ 1) ⌝ }
-{
-    if States(set).count() == 1 {
-        return 1;
-    }
-    0
-}
-
-// How many of the first n sets have one state.
-fn one_states(sets: &[u16], n: usize) -> usize
-    requires { ⌜ n ≤ length (now sets) ⌝ }
-    ensures { λ r. ⌜ r ≡ oneStates 16 (λ (v : ℕ). getD (now (sets .entry)) v 0) n ⌝ }
-{
-    let mut count = 0;
-    let mut v = 0;
-    while v < n {
-        count += one_state(sets[v]);
-        v += 1;
-    }
-    count
 }
 
 // Writes the line of a table's one column, which has this number in the sheet, and answers its length and the score.

@@ -1,55 +1,29 @@
 -- No second outcome meets the promise of labelling, or that of the whole work on a column.
 -- Assumes nothing.
 use mathlib.Core.List.{List, []}
-use mathlib.Core.Path.{_≡_, ap, sym, _∙_, subst}
-use Prim.Native.Nat.{ℕ, _≤_, _<_}
+use mathlib.Core.Path.{_≡_, ap, sym, _∙_}
+use Prim.Native.Nat.{ℕ, _<_}
 use native.Mathlib.Omega.{arith}
 use lib.ListN.{length, getD}
-use Rattle.parsimony.specs.Column.{Column, columnOf}
-use Rattle.parsimony.specs.Least.{LowestLeast}
-use Rattle.parsimony.specs.Row.{row, through}
-use Rattle.parsimony.specs.Tree.{Rooted}
-use Rattle.parsimony.proofs.LeastLaws.{lowest-least-unique}
-use Rattle.parsimony.proofs.Order.{by-lt, downward}
+use Rattle.parsimony.specs.Column.{columnOf}
 use Rattle.parsimony.proofs.Scoring.{score-unique}
-use Rattle.parsimony.proofs.TreeLaws.{parent-has}
 use Rattle.answers.specs.Answers.{GivenFor}
 use Rattle.answers.specs.CallRules.{tableRules, workRules}
 use Rattle.answers.specs.Input.{Input, column}
 use Rattle.answers.specs.Rules.{All}
 use Rattle.answers.specs.declared.Answer.{Answer}
 use Rattle.answers.specs.declared.Start.{Start}
-use Rattle.answers.specs.declared.Start.the-variants.{Free, Given}
+use Rattle.answers.specs.declared.Start.the-variants.{Free}
 use Rattle.answers.proofs.RootLaws.{rules-sound}
+use Rattle.works.specs.Written.{WorkWritten}
+use Rattle.works.proofs.ResultUnique.{label-unique, set-unique}
+use Rattle.works.proofs.RuleParts.{label-parts, work-parts}
 use Rattle.scorer.specs.Lent.{LeftBy}
-use Rattle.scorer.specs.Promises.{Labelled, WorkWritten, ColumnWorked}
-use Rattle.scorer.specs.Results.{StartLabels, IsLabelling}
+use Rattle.scorer.specs.Promises.{Labelled, ColumnWorked}
 use Rattle.scorer.specs.Works.{workAnswer, scoreOf}
 use Rattle.scorer.specs.declared.Work.{Work}
 use Rattle.scorer.specs.declared.Work.the-variants as Work
-use Rattle.scorer.proofs.Outcomes.{answer-unique, outcome, kept-same, listed-same, room-same, set-unique}
-use Rattle.scorer.proofs.RuleParts.{label-parts, work-parts}
-
--- two labellings from a start have the same root
-root-unique : (P : Column) (start : Start) (l m : ℕ → ℕ) → StartLabels P start l → StartLabels P start m
-    → l (P .last) ≡ m (P .last)
-root-unique P Free l m f g = lowest-least-unique (row P (P .last)) (P .states) (l (P .last)) (m (P .last)) (f .1) (g .1)
-root-unique P (Given x) l m f g = f .root ∙ sym (g .root)
-
--- and, in a tree, the same state at every node
-pub label-unique : (P : Column) → Rooted (P .last) (P .kids) → (start : Start) (l m : ℕ → ℕ) → IsLabelling P start l
-    → IsLabelling P start m → (v : ℕ) → v ≤ P .last → l v ≡ m v
-label-unique P tree start l m f g = downward (P .last) _ go
-  where
-    go : (v : ℕ) → v ≤ P .last → ((w : ℕ) → v < w → w ≤ P .last → l w ≡ m w) → l v ≡ m v
-    go v h higher =
-        by-lt v (P .last)
-        (λ below. let (p, hp, c) = parent-has (P .last) (P .kids) tree v below in
-        let same = higher p (tree .below hp c) hp in
-        lowest-least-unique (through P (row P v) (l p)) (P .states) (l v) (m v) (f .children p v hp c)
-        (subst (λ x. LowestLeast (through P (row P v) x) (P .states) (m v)) (sym same) (g .children p v hp c)))
-        (λ top. let e : v ≡ P .last = omega arith in
-        ap l e ∙ root-unique P start l m (f .least) (g .least) ∙ ap m (sym e))
+use Rattle.scorer.proofs.Outcomes.{answer-unique, outcome, kept-same, listed-same, room-same}
 
 -- no second outcome of labelling
 pub label-outcome : (I : Input) (j : ℕ) (start : Start) (states rows : List ℕ) (a b : Answer) (s1 r1 s2 r2 : List ℕ)

@@ -6,15 +6,12 @@ use Prim.Native.Nat.{ℕ, zero, suc, _*_, _<_}
 use native.Mathlib.Omega.{arith}
 use lib.ListN.{length, getD}
 use lib.Seq.{ext-getD}
-use Rattle.parsimony.specs.Barred.{barred}
-use Rattle.parsimony.specs.Column.{Column}
 use Rattle.parsimony.specs.Fault.{LowestFault}
 use Rattle.parsimony.specs.Table.{nodeAt}
 use Rattle.parsimony.proofs.FilledLaws.{place-split}
-use Rattle.parsimony.proofs.Order.{by-lt, by-eq}
+use Rattle.parsimony.proofs.Order.{by-lt}
 use Rattle.parsimony.proofs.Scoring.{score-unique}
 use Rattle.parsimony.proofs.ShapeLaws.{fault-unique}
-use Rattle.parsimony.proofs.StateSetLaws.{set-same}
 use Rattle.answers.specs.Answers.{placeOf, carriedBy, Carries, GivenFor, Given}
 use Rattle.answers.specs.Input.{Input, column}
 use Rattle.answers.specs.Rules.{All}
@@ -25,10 +22,12 @@ use Rattle.answers.specs.declared.Refusal.the-variants.{Size, Shape, Costs, Cel
 use Rattle.answers.specs.declared.Start.{Start}
 use Rattle.answers.proofs.RuleLaws.{first-unique, all-not-first}
 use Rattle.columns.specs.RowRoom.{RowRoom}
+use Rattle.works.specs.Lent.{Kept, Listed}
+use Rattle.works.specs.Written.{ScoresWritten}
+use Rattle.works.proofs.ResultUnique.{set-unique, entry-unique}
 use Rattle.scorer.specs.Counts.{answerOf, changesOf}
-use Rattle.scorer.specs.Lent.{Kept, Listed, LeftBy}
-use Rattle.scorer.specs.Promises.{ScoresWritten, Scored, SetsFound, HandedUp, CountWritten, CountedBySets}
-use Rattle.scorer.specs.Results.{IsSet, IsEntry}
+use Rattle.scorer.specs.Lent.{LeftBy}
+use Rattle.scorer.specs.Promises.{Scored, SetsFound, HandedUp, CountWritten, CountedBySets}
 use Rattle.scorer.specs.declared.Counted.{Counted}
 use Rattle.scorer.specs.declared.Counted.the-variants as Count
 
@@ -148,12 +147,6 @@ score-outcome I scores rows a b s1 r1 s2 r2 f g =
       scores-rows I (I .c) scores rows s1 r1 s2 r2 refl u v,
     ))
 
--- a node has one set
-pub set-unique : (P : Column) (start : Start) (v w z : ℕ) → IsSet P start v w → IsSet P start v z → w ≡ z
-set-unique P start v w z f g =
-    set-same (P .states) w z (f .within) (g .within)
-    (λ y h. ((λ m. g .members y .1 (f .members y .0 m)), (λ m. f .members y .1 (g .members y .0 m))))
-
 -- no second outcome of the set call
 pub sets-outcome : (I : Input) (j : ℕ) (start : Start) (sets rows : List ℕ) (a b : Answer) (s1 r1 s2 r2 : List ℕ)
     → SetsFound I j start sets rows a s1 r1 → SetsFound I j start sets rows b s2 r2 → (a ≡ b) × (s1 ≡ s2) × (r1 ≡ r2)
@@ -163,19 +156,6 @@ sets-outcome I j start sets rows a b s1 r1 s2 r2 f g =
       listed-same (u .each) (v .each) (λ x w z h. set-unique (column I j) start x w z),
       room-same (u .worked) (v .worked),
     ))
-
--- a state has one entry
-pub entry-unique : (P : Column) (x d e : ℕ) → IsEntry P x d → IsEntry P x e → d ≡ e
-entry-unique P x d e f g =
-    by-eq d barred
-    (λ bar. by-eq e barred (λ same. bar ∙ sym same)
-    (λ ne. let (l, from, c) = g .reached ne in absurd (f .shut bar l (from .agrees) (from .root))))
-    (λ nd. let (l, from, c) = f .reached nd in
-    by-eq e barred (λ bar. absurd (g .shut bar l (from .agrees) (from .root)))
-    (λ ne. let (m, to, k) = g .reached ne in
-    let low = from .least m (to .agrees) (to .root) in
-    let high = to .least l (from .agrees) (from .root) in
-    omega arith))
 
 -- no second outcome of handing up
 pub hand-up-outcome : (I : Input) (j : ℕ) (row rows : List ℕ) (a b : Answer) (s1 r1 s2 r2 : List ℕ)

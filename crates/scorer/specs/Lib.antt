@@ -3,5 +3,4 @@
 pub mod Lent
 pub mod Counts
 pub mod Works
-pub mod Results
 pub mod Promises

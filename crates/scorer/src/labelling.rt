@@ -1,39 +1,10 @@
 // Labelling: the state of each node in one column.
-ghost use lib.ListN.{length};
-ghost use Rattle.answers.specs.CallRules.{labelRules};
 ghost use Rattle.answers.specs.Input.{input};
-ghost use Rattle.answers.specs.Rules.{All};
-ghost use Rattle.scorer.specs.Promises.{LabelsWritten, Labelled};
-use crate::rows::work_rows;
+ghost use Rattle.scorer.specs.Promises.{Labelled};
 use answers::Answer;
 use answers::Start;
 use requests::label_tests;
-use roots::states_down;
-
-// The labels of column j, from the root down.
-fn label_column(
-    left: &[u16],
-    right: &[u16],
-    s: usize,
-    costs: &[u16],
-    c: usize,
-    cells: &[u16],
-    handed: &[u32],
-    j: usize,
-    start: Start,
-    states: &mut [u8],
-    rows: &mut [u32],
-)
-    requires { ⌜ All (labelRules (input (now left) (now right) s (now costs) c (now cells) (now handed)) j start
-        (length (now states)) (length (now rows))) ⌝ }
-    ensures { λ r. ⌜ LabelsWritten
-        (input (now (left .entry)) (now (right .entry)) s (now (costs .entry)) c (now (cells .entry))
-        (now (handed .entry))) j start (now (states .entry)) (now (rows .entry))
-        (now (states .exit)) (now (rows .exit)) ⌝ }
-{
-    work_rows(left, right, s, costs, c, cells, handed, j, rows);
-    states_down(left, right, s, costs, rows, start, states);
-}
+use works::label_column;
 
 // Labelling: the state of each node in one column, from a start.
 pub fn label(

@@ -4,7 +4,6 @@ use answers::Refusal;
 mod counting;
 mod handing_up;
 mod labelling;
-mod rows;
 mod scoring;
 mod set_call;
 mod whole_work;

@@ -3,10 +3,11 @@
 use native.Mathlib.Omega.{arith}
 use borrow.Author.Needs.{needs}
 use lib.ListN.{getD}
-use Rattle.reports.proofs.LineLaws.{line-length, letters-length}
+use Rattle.reports.proofs.LineLaws.{line-length}
 use Rattle.reports.proofs.LineSteps.{put-parts}
 use Rattle.reports.proofs.column.put_line.Statement.{statement}
-use Rattle.reports.specs.Letters.{letters}
+use Rattle.marks.specs.Letters.{letters}
+use Rattle.marks.proofs.LetterLaws.{letters-length}
 use Rattle.texts.proofs.PutLaws.{put-long}
 use Rattle.reports.proofs.column.put_line.Tie as tie
 

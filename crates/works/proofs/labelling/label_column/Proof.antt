@@ -1,0 +1,82 @@
+-- `label_column` meets its contract: the rows are the column's, and the states come down from the start.
+-- Assumes nothing.
+use Prim.Native.Nat.{_*_, _≤_}
+use native.Mathlib.Omega.{arith}
+use borrow.Author.Needs.{needs}
+use lib.ListN.{length}
+use Rattle.answers.proofs.RootLaws.{rules-legal}
+use Rattle.answers.specs.Input.{Input, input, nodes}
+use Rattle.works.proofs.LinkLaws.{rules-calm}
+use Rattle.works.proofs.RuleParts.{label-parts}
+use Rattle.works.proofs.StartSteps.{start-state, labels-right}
+use Rattle.works.proofs.labelling.label_column.Statement.{statement}
+use Rattle.works.proofs.labelling.label_column.Tie as tie
+
+-- the table that is given
+abbrev table : tie.Start → Input
+table c =
+    input (c .args .left .now) (c .args .right .now) (c .args .s) (c .args .costs .now) (c .args .c)
+    (c .args .cells .now) (c .args .handed .now)
+
+work-rows-requires : tie.Need-work-rows-requires
+work-rows-requires c κs =
+    let call = c .before .before .before .before .before .before .before .before in
+    let I = table call in
+    let j = call .args .j in
+    let parts =
+    label-parts I j (call .args .start) (length (call .args .states .now)) (length (call .args .rows .now)) (call .pre)
+    in
+    (parts .table, (parts .which .0, parts .room .1))
+
+states-down-requires : tie.Need-states-down-requires
+states-down-requires c κs =
+    let far = c .before .before .before .before .before .before .before .before in
+    let work-rows = c .before .before .before .before .work-rows in
+    let call = far .before .before .before .before .before in
+    let I = table call in
+    let j = call .args .j in
+    let parts =
+    label-parts I j (call .args .start) (length (call .args .states .now)) (length (call .args .rows .now)) (call .pre)
+    in
+    let rows = work-rows .last .1 .1 .1 .1 .1 .1 .1 .1 .0 in
+    let held = work-rows .ensures .holds in
+    let room : nodes I * I .s ≤ length rows = omega (arith, work-rows .ensures .long, parts .room .1) in (
+      rules-legal I (parts .table),
+      (
+        parts .table .1 .1 .0,
+        (
+          rules-calm I (parts .table) j (parts .which .0) rows room held,
+          (start-state I (parts .table) j (parts .which .0) (call .args .start) (parts .which .1), parts .room .0),
+        ),
+      ),
+    )
+
+same-length : tie.Need-same-length
+same-length c = search needs
+
+same-length-2 : tie.Need-same-length-2
+same-length-2 c = search needs
+
+returns : tie.Need-returns
+returns c =
+    let far = c .before .before .before .before .before .before .before .before in
+    let work-rows = c .before .before .before .before .before .before .before .work-rows in
+    let call = far .before .before .before .before .before .before .before .before in
+    let I = table call in
+    let j = call .args .j in
+    let parts =
+    label-parts I j (call .args .start) (length (call .args .states .now)) (length (call .args .rows .now)) (call .pre)
+    in
+    let rows = work-rows .last .1 .1 .1 .1 .1 .1 .1 .1 .0 in
+    let held = work-rows .ensures .holds in
+    let down = c .before .before .states-down .ensures in
+    record {
+      labels = labels-right I (parts .table) j (parts .which .0) rows held (call .args .start) _ (parts .which .1)
+          (down .values);
+      kept = record { long = down .long; over = down .over };
+      worked = work-rows .ensures;
+    }
+
+pub label-column-spec : {M : Type 1} → statement M
+label-column-spec =
+    tie.close (tie.spec work-rows-requires states-down-requires same-length same-length-2 returns)
