@@ -31,7 +31,8 @@ same-length-2 c = search needs
 
 returns : tie.Need-returns
 returns c =
-    let hand-up = c .before .before .before .before .before .hand-up in
+    let c1 = c .before .before .before .before .before in
+    let hand-up = c1 .hand-up in
     record { answer = hand-up .result; packed = c .code .ensures; promise = hand-up .ensures }
 
 pub fernijster-hand-up-spec : {M : Type 1} → statement M

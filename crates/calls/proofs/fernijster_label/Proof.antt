@@ -35,8 +35,10 @@ same-length-2 c = search needs
 
 returns : tie.Need-returns
 returns c =
-    let label = c .before .before .before .before .before .label in
-    let start-of = c .before .before .before .before .before .before .before .before .start-of in
+    let c1 = c .before .before .before .before .before in
+    let c2 = c1 .before .before .before in
+    let label = c1 .label in
+    let start-of = c2 .start-of in
     record {
       answer = label .result;
       packed = c .code .ensures;

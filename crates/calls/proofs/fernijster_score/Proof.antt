@@ -31,7 +31,8 @@ same-length-2 c = search needs
 
 returns : tie.Need-returns
 returns c =
-    let score = c .before .before .before .before .before .score in
+    let c1 = c .before .before .before .before .before in
+    let score = c1 .score in
     record { answer = score .result; packed = c .code .ensures; promise = score .ensures }
 
 pub fernijster-score-spec : {M : Type 1} → statement M

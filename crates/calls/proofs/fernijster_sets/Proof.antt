@@ -35,8 +35,10 @@ same-length-2 c = search needs
 
 returns : tie.Need-returns
 returns c =
-    let sets = c .before .before .before .before .before .sets in
-    let start-of = c .before .before .before .before .before .before .before .before .start-of in
+    let c1 = c .before .before .before .before .before in
+    let c2 = c1 .before .before .before in
+    let sets = c1 .sets in
+    let start-of = c2 .start-of in
     record {
       answer = sets .result;
       packed = c .code .ensures;

@@ -34,7 +34,8 @@ enum-told c = search needs
 
 returns-2 : tie.Need-returns-2
 returns-2 c =
-    let matrix-tests = c .before .before .before .matrix-tests in
+    let c1 = c .before .before .before in
+    let matrix-tests = c1 .matrix-tests in
     let all = done-all _ _ _ _ (matrix-tests .ensures) (c .before .enum-told .given .1) in
     record {
       given = (
@@ -45,13 +46,17 @@ returns-2 c =
 
 unit-costs-requires : tie.Need-unit-costs-requires
 unit-costs-requires c κs =
-    let all = done-all _ _ _ _ (c .before .before .before .matrix-tests .ensures) (c .before .enum-told .given .1) in
+    let c1 = c .before .before .before in
+    let all = done-all _ _ _ _ (c1 .matrix-tests .ensures) (c .before .enum-told .given .1) in
     all .1 .1 .0
 
 returns-3 : tie.Need-returns-3
 returns-3 c =
-    let enum-told = c .before .before .before .enum-told in
-    let matrix-tests = c .before .before .before .before .before .matrix-tests in
+    let c1 = c .before .before in
+    let c2 = c1 .before in
+    let c3 = c2 .before .before in
+    let enum-told = c2 .enum-told in
+    let matrix-tests = c3 .matrix-tests in
     let all = done-all _ _ _ _ (matrix-tests .ensures) (enum-told .given .1) in
     let dear = unless-no (c .before .unit-costs .ensures) (c .if2 .taken) in
     record {
@@ -60,7 +65,7 @@ returns-3 c =
           all .0,
           (
             all .1 .0,
-            (all .1 .1 .0, (all .1 .1 .1 .0, (tt, (c .before .before .if1 .left, λ unit. dear (unit .0))))),
+            (all .1 .1 .0, (all .1 .1 .1 .0, (tt, (c1 .if1 .left, λ unit. dear (unit .0))))),
           ),
         ),
         tt,
@@ -69,15 +74,20 @@ returns-3 c =
 
 tips-of-requires : tie.Need-tips-of-requires
 tips-of-requires c κs =
-    let enum-told = c .before .before .before .enum-told in
-    let matrix-tests = c .before .before .before .before .before .matrix-tests in
+    let c1 = c .before .before .before in
+    let c2 = c1 .before .before in
+    let enum-told = c1 .enum-told in
+    let matrix-tests = c2 .matrix-tests in
     let all = done-all _ _ _ _ (matrix-tests .ensures) (enum-told .given .1) in all .0
 
 returns-4 : tie.Need-returns-4
 returns-4 c =
-    let if1 = c .before .before .before .before .if1 in
-    let enum-told = c .before .before .before .before .before .enum-told in
-    let matrix-tests = c .before .before .before .before .before .before .before .matrix-tests in
+    let c1 = c .before .before .before .before in
+    let c2 = c1 .before in
+    let c3 = c2 .before .before in
+    let if1 = c1 .if1 in
+    let enum-told = c2 .enum-told in
+    let matrix-tests = c3 .matrix-tests in
     let all = done-all _ _ _ _ (matrix-tests .ensures) (enum-told .given .1) in
     record {
       given = (
@@ -97,11 +107,17 @@ returns-4 c =
 
 returns-5 : tie.Need-returns-5
 returns-5 c =
-    let if2 = c .before .before .before .if2 in
-    let unit-costs = c .before .before .before .before .unit-costs in
-    let if1 = c .before .before .before .before .before .if1 in
-    let enum-told = c .before .before .before .before .before .before .enum-told in
-    let matrix-tests = c .before .before .before .before .before .before .before .before .matrix-tests in
+    let c1 = c .before .before in
+    let c2 = c1 .before in
+    let c3 = c2 .before in
+    let c4 = c3 .before in
+    let c5 = c4 .before in
+    let c6 = c5 .before .before in
+    let if2 = c2 .if2 in
+    let unit-costs = c3 .unit-costs in
+    let if1 = c4 .if1 in
+    let enum-told = c5 .enum-told in
+    let matrix-tests = c6 .matrix-tests in
     let all = done-all _ _ _ _ (matrix-tests .ensures) (enum-told .given .1) in
     let unit = unless-yes (unit-costs .ensures) (if2 .left) in
     record {
@@ -119,7 +135,7 @@ returns-5 c =
                   (
                     if1 .left,
                     (
-                      (unit, sym (c .before .before .tips-of .ensures) ∙ c .before .if3 .left),
+                      (unit, sym (c1 .tips-of .ensures) ∙ c .before .if3 .left),
                       λ room. omega (arith, c .if4 .taken),
                     ),
                   ),
@@ -134,11 +150,17 @@ returns-5 c =
 
 returns-6 : tie.Need-returns-6
 returns-6 c =
-    let if2 = c .before .before .before .if2 in
-    let unit-costs = c .before .before .before .before .unit-costs in
-    let if1 = c .before .before .before .before .before .if1 in
-    let enum-told = c .before .before .before .before .before .before .enum-told in
-    let matrix-tests = c .before .before .before .before .before .before .before .before .matrix-tests in
+    let c1 = c .before .before in
+    let c2 = c1 .before in
+    let c3 = c2 .before in
+    let c4 = c3 .before in
+    let c5 = c4 .before in
+    let c6 = c5 .before .before in
+    let if2 = c2 .if2 in
+    let unit-costs = c3 .unit-costs in
+    let if1 = c4 .if1 in
+    let enum-told = c5 .enum-told in
+    let matrix-tests = c6 .matrix-tests in
     let all = done-all _ _ _ _ (matrix-tests .ensures) (enum-told .given .1) in
     let unit = unless-yes (unit-costs .ensures) (if2 .left) in
     record {
@@ -154,7 +176,7 @@ returns-6 c =
                 tt,
                 (
                   if1 .left,
-                  ((unit, sym (c .before .before .tips-of .ensures) ∙ c .before .if3 .left), (c .if4 .left, tt)),
+                  ((unit, sym (c1 .tips-of .ensures) ∙ c .before .if3 .left), (c .if4 .left, tt)),
                 ),
               ),
             ),

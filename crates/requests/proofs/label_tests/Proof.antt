@@ -33,7 +33,8 @@ enum-told c = search needs
 
 returns-2 : tie.Need-returns-2
 returns-2 c =
-    let table-tests = c .before .before .before .table-tests in
+    let c1 = c .before .before .before in
+    let table-tests = c1 .table-tests in
     let all = done-all _ _ _ _ (table-tests .ensures) (c .before .enum-told .given .1) in
     record {
       given = (
@@ -50,13 +51,16 @@ returns-2 c =
 
 state-start-requires : tie.Need-state-start-requires
 state-start-requires c κs =
-    let all = done-all _ _ _ _ (c .before .before .before .table-tests .ensures) (c .before .enum-told .given .1) in
+    let c1 = c .before .before .before in
+    let all = done-all _ _ _ _ (c1 .table-tests .ensures) (c .before .enum-told .given .1) in
     (all, c .if1 .left)
 
 returns-3 : tie.Need-returns-3
 returns-3 c =
-    let enum-told = c .before .before .before .enum-told in
-    let table-tests = c .before .before .before .before .before .table-tests in
+    let c1 = c .before .before .before in
+    let c2 = c1 .before .before in
+    let enum-told = c1 .enum-told in
+    let table-tests = c2 .table-tests in
     let all = done-all _ _ _ _ (table-tests .ensures) (enum-told .given .1) in
     let wrong = unless-no (c .before .state-start .ensures) (c .if2 .taken) in
     record {
@@ -68,8 +72,10 @@ returns-3 c =
 
 room-fits-requires : tie.Need-room-fits-requires
 room-fits-requires c κs =
-    let enum-told = c .before .before .before .enum-told in
-    let table-tests = c .before .before .before .before .before .table-tests in
+    let c1 = c .before .before .before in
+    let c2 = c1 .before .before in
+    let enum-told = c1 .enum-told in
+    let table-tests = c2 .table-tests in
     let all = done-all _ _ _ _ (table-tests .ensures) (enum-told .given .1) in (all .0 .most, all .1 .1 .0 .most)
 
 returns-4 : tie.Need-returns-4

@@ -33,7 +33,8 @@ enum-told c = search needs
 
 returns-2 : tie.Need-returns-2
 returns-2 c =
-    let table-tests = c .before .before .before .table-tests in
+    let c1 = c .before .before .before in
+    let table-tests = c1 .table-tests in
     let all = done-all _ _ _ _ (table-tests .ensures) (c .before .enum-told .given .1) in
     record {
       given = (
@@ -50,8 +51,10 @@ returns-2 c =
 
 returns-3 : tie.Need-returns-3
 returns-3 c =
-    let enum-told = c .before .before .enum-told in
-    let table-tests = c .before .before .before .before .table-tests in
+    let c1 = c .before .before in
+    let c2 = c1 .before .before in
+    let enum-told = c1 .enum-told in
+    let table-tests = c2 .table-tests in
     let all = done-all _ _ _ _ (table-tests .ensures) (enum-told .given .1) in
     let inside = c .before .if1 .left in
     let few = c .if2 .taken in
@@ -73,18 +76,23 @@ returns-3 c =
 
 room-fits-requires : tie.Need-room-fits-requires
 room-fits-requires c κs =
-    let enum-told = c .before .before .enum-told in
-    let table-tests = c .before .before .before .before .table-tests in
+    let c1 = c .before .before in
+    let c2 = c1 .before .before in
+    let enum-told = c1 .enum-told in
+    let table-tests = c2 .table-tests in
     let all = done-all _ _ _ _ (table-tests .ensures) (enum-told .given .1) in
     (all .0 .most, all .1 .1 .0 .most)
 
 returns-4 : tie.Need-returns-4
 returns-4 c =
-    let enum-told = c .before .before .before .before .enum-told in
-    let table-tests = c .before .before .before .before .before .before .table-tests in
+    let c1 = c .before .before .before in
+    let c2 = c1 .before in
+    let c3 = c2 .before .before in
+    let enum-told = c2 .enum-told in
+    let table-tests = c3 .table-tests in
     let all = done-all _ _ _ _ (table-tests .ensures) (enum-told .given .1) in
     let short = unless-no (c .before .room-fits .ensures) (c .if3 .taken) in
-    let inside = c .before .before .before .if1 .left in
+    let inside = c1 .if1 .left in
     record {
       given = (
         (
@@ -100,12 +108,16 @@ returns-4 c =
 
 returns-5 : tie.Need-returns-5
 returns-5 c =
-    let enum-told = c .before .before .before .before .enum-told in
-    let table-tests = c .before .before .before .before .before .before .table-tests in
+    let c1 = c .before .before in
+    let c2 = c1 .before in
+    let c3 = c2 .before in
+    let c4 = c3 .before .before in
+    let enum-told = c3 .enum-told in
+    let table-tests = c4 .table-tests in
     let all = done-all _ _ _ _ (table-tests .ensures) (enum-told .given .1) in
     let room = unless-yes (c .before .room-fits .ensures) (c .if3 .left) in
-    let inside = c .before .before .before .if1 .left in
-    let states = c .before .before .if2 .left in
+    let inside = c2 .if1 .left in
+    let states = c1 .if2 .left in
     record {
       given = (
         all .0,

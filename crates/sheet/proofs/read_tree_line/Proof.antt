@@ -31,31 +31,44 @@ enum-told-2 : tie.Need-enum-told-2
 enum-told-2 c = search needs
 
 returns-2 : tie.Need-returns-2
-returns-2 c = no-tree _ _ _ _ _ _ _ _ (sym (c .before .before .before .before .before .before .before .before
-    .line-end .ensures) ∙ c .before .before .before .before .before .before .end .given .1) (line-no-tree (c .before
-    .before .tree-line .ensures) (c .enum-told2 .given .1))
+returns-2 c =
+    let c1 = c .before .before in
+    let c2 = c1 .before .before .before .before in
+    let c3 = c2 .before .before in
+    no-tree _ _ _ _ _ _ _ _ (sym (c3
+    .line-end .ensures) ∙ c2 .end .given .1) (line-no-tree (c1 .tree-line .ensures) (c .enum-told2 .given .1))
 
 add-if1 : tie.Need-add-if1
-add-if1 c = record {
-  fits = lt-of-le-of-lt (add-one-le (line-read _ _ _ (sym (c .before .before .before .before
-      .before .before .before .before .before .line-end .ensures) ∙ c .before .before .before .before .before .before
-      .before .end .given .1) .inside)) (c .before .before .before .before .before .before .before .before .before
-      .before .before .before .good .0 .0);
-}
+add-if1 c =
+    let c1 = c .before .before .before .before .before .before .before in
+    let c2 = c1 .before .before in
+    let c3 = c2 .before .before .before in
+    record {
+      fits = lt-of-le-of-lt (add-one-le (line-read _ _ _ (sym (c2 .line-end .ensures) ∙ c1 .end .given .1) .inside))
+          (c3 .good .0 .0);
+    }
 
 add-t20 : tie.Need-add-t20
 add-t20 c = search needs
 
 returns-3 : tie.Need-returns-3
-returns-3 c = more-after _ _ _ _ _ _ _ _ (sym (c .before .before .before .before .before .before .before .before
-    .before .before .line-end .ensures) ∙ c .before .before .before .before .before .before .before .before .end
-    .given .1) _ _ (line-tree _ _ (c .before .before .before .before .tree-line .ensures) (c .before .before .nodes
+returns-3 c =
+    let c1 = c .before .before in
+    let c2 = c1 .before .before in
+    let c3 = c2 .before .before .before .before in
+    let c4 = c3 .before .before in
+    more-after _ _ _ _ _ _ _ _ (sym (c4 .line-end .ensures) ∙ c3 .end
+    .given .1) _ _ (line-tree _ _ (c2 .tree-line .ensures) (c1 .nodes
     .given .1)) (c .if1 .taken)
 
 returns-4 : tie.Need-returns-4
-returns-4 c = whole-line _ _ _ _ _ _ _ _ (sym (c .before .before .before .before .before .before .before .before
-    .before .before .line-end .ensures) ∙ c .before .before .before .before .before .before .before .before .end
-    .given .1) _ _ (line-tree _ _ (c .before .before .before .before .tree-line .ensures) (c .before .before .nodes
+returns-4 c =
+    let c1 = c .before .before in
+    let c2 = c1 .before .before in
+    let c3 = c2 .before .before .before .before in
+    let c4 = c3 .before .before in
+    whole-line _ _ _ _ _ _ _ _ (sym (c4 .line-end .ensures) ∙ c3 .end
+    .given .1) _ _ (line-tree _ _ (c2 .tree-line .ensures) (c1 .nodes
     .given .1)) (c .if1 .left)
 
 pub read-tree-line-spec : {M : Type 1} → statement M

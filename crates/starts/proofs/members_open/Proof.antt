@@ -23,7 +23,9 @@ table c =
     (c .args .cells .now) (c .args .handed .now)
 
 tips-of-requires : tie.Need-tips-of-requires Inv-loop μ-loop
-tips-of-requires c κs = c .before .before .before .before .before .pre .0 .0
+tips-of-requires c κs =
+    let start = c .before .before .before .before .before in
+    start .pre .0 .0
 
 loop-holds : tie.Need-loop-holds Inv-loop μ-loop
 loop-holds c =

@@ -27,9 +27,12 @@ enum-known-tree c = search needs
 
 returns-2 : tie.Need-returns-2
 returns-2 c =
-    let check-tree = c .before .before .before .check-tree in
-    let if1 = c .before .before .before .before .if1 in
-    let size-fits = c .before .before .before .before .before .size-fits in
+    let c1 = c .before .before .before in
+    let c2 = c1 .before in
+    let c3 = c2 .before in
+    let check-tree = c1 .check-tree in
+    let if1 = c2 .if1 in
+    let size-fits = c3 .size-fits in
     let fault = subst (Found _ _) (c .before .tree .given .1) (check-tree .ensures) .found in
     record { given = ((unless-yes (size-fits .ensures) (if1 .left), fault-illegal _ _ _ fault), fault) }
 
@@ -41,10 +44,14 @@ costs-fit-requires c κs = search needs
 
 returns-3 : tie.Need-returns-3
 returns-3 c =
-    let check-tree = c .before .before .before .before .check-tree in
-    let if1 = c .before .before .before .before .before .if1 in
-    let size-fits = c .before .before .before .before .before .before .size-fits in
-    let tree = subst (Found _ _) (c .before .before .enum-told .given .1) (check-tree .ensures) .found in
+    let c1 = c .before .before in
+    let c2 = c1 .before .before in
+    let c3 = c2 .before in
+    let c4 = c3 .before in
+    let check-tree = c2 .check-tree in
+    let if1 = c3 .if1 in
+    let size-fits = c4 .size-fits in
+    let tree = subst (Found _ _) (c1 .enum-told .given .1) (check-tree .ensures) .found in
     record {
       given = (
         (
@@ -57,8 +64,10 @@ returns-3 c =
 
 tips-of-requires : tie.Need-tips-of-requires
 tips-of-requires c κs =
-    let if1 = c .before .before .before .before .before .if1 in
-    let size-fits = c .before .before .before .before .before .before .size-fits in
+    let c1 = c .before .before .before .before .before in
+    let c2 = c1 .before in
+    let if1 = c1 .if1 in
+    let size-fits = c2 .size-fits in
     unless-yes (size-fits .ensures) (if1 .left)
 
 cells-fit-requires : tie.Need-cells-fit-requires

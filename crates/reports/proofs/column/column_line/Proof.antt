@@ -30,11 +30,16 @@ wide-requires c κs = search needs
 
 put-line-requires : tie.Need-put-line-requires
 put-line-requires c κs =
-    let far = c .before .before .before .before .before .before .before .before in
+    let c1 = c .before .before in
+    let c2 = c1 .before in
+    let c3 = c2 .before in
+    let c4 = c3 .before .before .before in
+    let c5 = c4 .before in
+    let far = c5 in
     let farther = far .before .before .before .before .before .before .before .before in
     let farthest = farther .before .before .before .before .before .before .before .before in
-    let one-states = c .before .before .before .before .one-states in
-    let work = c .before .before .before .before .before .before .before .work in
+    let one-states = c3 .one-states in
+    let work = c4 .work in
     let work-column = far .before .before .before .before .before .before .before .work-column in
     let call = farthest .before .before .before .before in
     let I =
@@ -43,8 +48,8 @@ put-line-requires c κs =
     let done = worked-done {I = I} (work .given .1) (work-column .ensures) in
     let few = call .pre .1 .1 .1 in
     let is =
-    text-is I rules (omega arith) done (call .args .number) _ _ _ (c .before .before .wide .ensures)
-    (c .before .before .before .quiet-mark .ensures) (one-states .ensures) in
+    text-is I rules (omega arith) done (call .args .number) _ _ _ (c1 .wide .ensures)
+    (c2 .quiet-mark .ensures) (one-states .ensures) in
     let most = line-most I rules (omega arith) (call .args .number) few in
     let same = ap length is in
     let long = done .kept .long in
@@ -67,12 +72,17 @@ same-length-4 c = search needs
 
 returns : tie.Need-returns
 returns c =
-    let far = c .before .before .before .before .before .before .before .before in
+    let c1 = c .before .before in
+    let c2 = c1 .before .before .before in
+    let c3 = c2 .before in
+    let c4 = c3 .before in
+    let c5 = c4 .before in
+    let far = c5 in
     let farther = far .before .before .before .before .before .before .before .before in
     let farthest = farther .before .before .before .before .before .before .before .before in
-    let wide = c .before .before .before .before .before .wide in
-    let quiet-mark = c .before .before .before .before .before .before .quiet-mark in
-    let one-states = c .before .before .before .before .before .before .before .one-states in
+    let wide = c2 .wide in
+    let quiet-mark = c3 .quiet-mark in
+    let one-states = c4 .one-states in
     let work = far .before .before .work in
     let work-column = farther .before .before .work-column in
     let call = farthest .before .before .before .before .before .before .before in
@@ -84,7 +94,7 @@ returns c =
     text-is I rules (omega arith) done (call .args .number) _ _ _ (wide .ensures) (quiet-mark .ensures)
     (one-states .ensures) in
     report-is I rules (omega arith) done (call .args .number) (call .pre .1 .1 .1) (call .pre .1 .1 .2) is
-    (c .before .before .put-line .ensures)
+    (c1 .put-line .ensures)
 
 same-length-5 : tie.Need-same-length-5
 same-length-5 c = search needs
@@ -97,7 +107,8 @@ same-length-7 c = search needs
 
 returns-2 : tie.Need-returns-2
 returns-2 c =
-    let far = c .before .before .before .before .before .before .before .before in
+    let c1 = c .before .before .before .before .before .before .before .before in
+    let far = c1 in
     let farther = far .before .before .before .before .before .before .before .before in
     let work-column = far .work-column in
     let call = farther .before .before .before .before .before in

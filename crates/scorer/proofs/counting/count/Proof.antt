@@ -18,7 +18,8 @@ enum-known-answer c = search needs
 
 returns : tie.Need-returns
 returns c =
-    let count-tests = c .before .before .before .count-tests in
+    let c1 = c .before .before .before in
+    let count-tests = c1 .count-tests in
     record { answer = given-same (count-tests .ensures) (c .before .answer .given .1); lists = refl }
 
 enum-told : tie.Need-enum-told

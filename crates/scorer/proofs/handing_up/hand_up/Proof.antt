@@ -15,7 +15,8 @@ enum-known-answer c = search needs
 
 returns : tie.Need-returns
 returns c =
-    let hand-up-tests = c .before .before .before .hand-up-tests in
+    let c1 = c .before .before .before in
+    let hand-up-tests = c1 .hand-up-tests in
     record { answer = given-same (hand-up-tests .ensures) (c .before .answer .given .1); lists = (refl, refl) }
 
 enum-told : tie.Need-enum-told
@@ -23,8 +24,10 @@ enum-told c = search needs
 
 row-column-requires : tie.Need-row-column-requires
 row-column-requires c κs =
-    let hand-up-tests = c .before .before .before .before .hand-up-tests in
-    done-all _ _ _ _ (hand-up-tests .ensures) (c .before .before .enum-told .given .1)
+    let c1 = c .before .before in
+    let c2 = c1 .before .before in
+    let hand-up-tests = c2 .hand-up-tests in
+    done-all _ _ _ _ (hand-up-tests .ensures) (c1 .enum-told .given .1)
 
 same-length : tie.Need-same-length
 same-length c = search needs
@@ -34,9 +37,12 @@ same-length-2 c = search needs
 
 returns-2 : tie.Need-returns-2
 returns-2 c =
-    let row-column = c .before .before .before .before .row-column in
-    let enum-told = c .before .before .before .before .before .before .before .enum-told in
-    let hand-up-tests = c .before .before .before .before .before .before .before .before .before .hand-up-tests in
+    let c1 = c .before .before .before .before in
+    let c2 = c1 .before .before .before in
+    let c3 = c2 .before .before in
+    let row-column = c1 .row-column in
+    let enum-told = c2 .enum-told in
+    let hand-up-tests = c3 .hand-up-tests in
     record { answer = given-same (hand-up-tests .ensures) (enum-told .given .1); lists = row-column .ensures }
 
 pub hand-up-spec : {M : Type 1} → statement M

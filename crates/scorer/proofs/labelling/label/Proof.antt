@@ -15,7 +15,8 @@ enum-known-answer c = search needs
 
 returns : tie.Need-returns
 returns c =
-    let label-tests = c .before .before .before .label-tests in
+    let c1 = c .before .before .before in
+    let label-tests = c1 .label-tests in
     record { answer = given-same (label-tests .ensures) (c .before .answer .given .1); lists = (refl, refl) }
 
 enum-told : tie.Need-enum-told
@@ -23,8 +24,10 @@ enum-told c = search needs
 
 label-column-requires : tie.Need-label-column-requires
 label-column-requires c κs =
-    let label-tests = c .before .before .before .before .label-tests in
-    done-all _ _ _ _ (label-tests .ensures) (c .before .before .enum-told .given .1)
+    let c1 = c .before .before in
+    let c2 = c1 .before .before in
+    let label-tests = c2 .label-tests in
+    done-all _ _ _ _ (label-tests .ensures) (c1 .enum-told .given .1)
 
 same-length : tie.Need-same-length
 same-length c = search needs
@@ -34,9 +37,12 @@ same-length-2 c = search needs
 
 returns-2 : tie.Need-returns-2
 returns-2 c =
-    let label-column = c .before .before .before .before .label-column in
-    let enum-told = c .before .before .before .before .before .before .before .enum-told in
-    let label-tests = c .before .before .before .before .before .before .before .before .before .label-tests in
+    let c1 = c .before .before .before .before in
+    let c2 = c1 .before .before .before in
+    let c3 = c2 .before .before in
+    let label-column = c1 .label-column in
+    let enum-told = c2 .enum-told in
+    let label-tests = c3 .label-tests in
     record { answer = given-same (label-tests .ensures) (enum-told .given .1); lists = label-column .ensures }
 
 pub label-spec : {M : Type 1} → statement M

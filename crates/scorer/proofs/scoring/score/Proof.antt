@@ -15,7 +15,8 @@ enum-known-answer c = search needs
 
 returns : tie.Need-returns
 returns c =
-    let score-tests = c .before .before .before .score-tests in
+    let c1 = c .before .before .before in
+    let score-tests = c1 .score-tests in
     record { answer = given-same (score-tests .ensures) (c .before .answer .given .1); lists = (refl, refl) }
 
 enum-told : tie.Need-enum-told
@@ -23,8 +24,10 @@ enum-told c = search needs
 
 score-columns-requires : tie.Need-score-columns-requires
 score-columns-requires c κs =
-    let score-tests = c .before .before .before .before .score-tests in
-    done-all _ _ _ _ (score-tests .ensures) (c .before .before .enum-told .given .1)
+    let c1 = c .before .before in
+    let c2 = c1 .before .before in
+    let score-tests = c2 .score-tests in
+    done-all _ _ _ _ (score-tests .ensures) (c1 .enum-told .given .1)
 
 same-length : tie.Need-same-length
 same-length c = search needs
@@ -34,9 +37,12 @@ same-length-2 c = search needs
 
 returns-2 : tie.Need-returns-2
 returns-2 c =
-    let score-columns = c .before .before .before .before .score-columns in
-    let enum-told = c .before .before .before .before .before .before .before .enum-told in
-    let score-tests = c .before .before .before .before .before .before .before .before .before .score-tests in
+    let c1 = c .before .before .before .before in
+    let c2 = c1 .before .before .before in
+    let c3 = c2 .before .before in
+    let score-columns = c1 .score-columns in
+    let enum-told = c2 .enum-told in
+    let score-tests = c3 .score-tests in
     record { answer = given-same (score-tests .ensures) (enum-told .given .1); lists = score-columns .ensures }
 
 pub score-spec : {M : Type 1} → statement M

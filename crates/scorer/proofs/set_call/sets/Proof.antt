@@ -15,7 +15,8 @@ enum-known-answer c = search needs
 
 returns : tie.Need-returns
 returns c =
-    let sets-tests = c .before .before .before .sets-tests in
+    let c1 = c .before .before .before in
+    let sets-tests = c1 .sets-tests in
     record { answer = given-same (sets-tests .ensures) (c .before .answer .given .1); lists = (refl, refl) }
 
 enum-told : tie.Need-enum-told
@@ -23,8 +24,10 @@ enum-told c = search needs
 
 set-column-requires : tie.Need-set-column-requires
 set-column-requires c κs =
-    let sets-tests = c .before .before .before .before .sets-tests in
-    done-all _ _ _ _ (sets-tests .ensures) (c .before .before .enum-told .given .1)
+    let c1 = c .before .before in
+    let c2 = c1 .before .before in
+    let sets-tests = c2 .sets-tests in
+    done-all _ _ _ _ (sets-tests .ensures) (c1 .enum-told .given .1)
 
 same-length : tie.Need-same-length
 same-length c = search needs
@@ -34,9 +37,12 @@ same-length-2 c = search needs
 
 returns-2 : tie.Need-returns-2
 returns-2 c =
-    let set-column = c .before .before .before .before .set-column in
-    let enum-told = c .before .before .before .before .before .before .before .enum-told in
-    let sets-tests = c .before .before .before .before .before .before .before .before .before .sets-tests in
+    let c1 = c .before .before .before .before in
+    let c2 = c1 .before .before .before in
+    let c3 = c2 .before .before in
+    let set-column = c1 .set-column in
+    let enum-told = c2 .enum-told in
+    let sets-tests = c3 .sets-tests in
     record { answer = given-same (sets-tests .ensures) (enum-told .given .1); lists = set-column .ensures }
 
 pub sets-spec : {M : Type 1} → statement M

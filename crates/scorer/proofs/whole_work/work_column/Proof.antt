@@ -15,8 +15,9 @@ enum-known-answer c = search needs
 
 returns : tie.Need-returns
 returns c =
+    let c1 = c .before .before .before in
     record {
-      answer = given-same (c .before .before .before .work-tests .ensures) (c .before .answer .given .1);
+      answer = given-same (c1 .work-tests .ensures) (c .before .answer .given .1);
       lists =
           (refl, refl, refl);
     }
@@ -26,8 +27,10 @@ enum-told c = search needs
 
 fill-column-requires : tie.Need-fill-column-requires
 fill-column-requires c κs =
-    let work-tests = c .before .before .before .before .before .work-tests in
-    done-all _ _ _ _ (work-tests .ensures) (c .before .before .before .enum-told .given .1)
+    let c1 = c .before .before .before in
+    let c2 = c1 .before .before in
+    let work-tests = c2 .work-tests in
+    done-all _ _ _ _ (work-tests .ensures) (c1 .enum-told .given .1)
 
 same-length : tie.Need-same-length
 same-length c = search needs
@@ -40,8 +43,10 @@ same-length-3 c = search needs
 
 returns-2 : tie.Need-returns-2
 returns-2 c =
-    let far = c .before .before .before .before .before .before .before .before in
-    let fill-column = c .before .before .before .before .before .before .fill-column in
+    let c1 = c .before .before .before .before .before .before in
+    let c2 = c1 .before .before in
+    let far = c2 in
+    let fill-column = c1 .fill-column in
     let enum-told = far .before .before .enum-told in
     let work-tests = far .before .before .before .before .work-tests in
     record { answer = given-same (work-tests .ensures) (enum-told .given .1); lists = fill-column .ensures }

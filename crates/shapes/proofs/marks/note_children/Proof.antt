@@ -21,7 +21,9 @@ loop-holds : tie.Need-loop-holds Inv-loop μ-loop
 loop-holds c = (omega arith, c .before .before .pre .1)
 
 node-at-requires : tie.Need-node-at-requires Inv-loop μ-loop
-node-at-requires c κs = omega (arith, c .before .before .before .before .pre .0 .0 .equal)
+node-at-requires c κs =
+    let start = c .before .before .before .before in
+    omega (arith, start .pre .0 .0 .equal)
 
 note-kids-requires : tie.Need-note-kids-requires Inv-loop μ-loop
 note-kids-requires c κs =

@@ -37,7 +37,8 @@ visit-requires c κs =
 -- the entries of v break their rules
 returns : tie.Need-returns Inv-loop μ-loop
 returns c =
-    let turn = c .before .before .before .before .before .before .loop in
+    let c1 = c .before .before .before .before .before .before in
+    let turn = c1 .loop in
     let broken = visited-as false (c .before .visit .ensures) (not-true _ (c .if1 .taken)) in
     (record { within = turn .inv .0; before = turn .inv .2; stop = λ i. broken .0 }, broken .1 .children)
 
@@ -49,7 +50,8 @@ loop-less c = search needs
 
 loop-again : tie.Need-loop-again Inv-loop μ-loop
 loop-again c =
-    let turn = c .before .before .before .before .before .before .loop in
+    let c1 = c .before .before .before .before .before .before in
+    let turn = c1 .loop in
     let kept = visited-as true (c .before .visit .ensures) (not-false _ (c .if1 .left)) in
     (omega arith, kept .1, below-more _ _ (turn .inv .2) (kept .0))
 

@@ -44,7 +44,8 @@ mul-result c =
 -- handed tips are asked for
 returns : tie.Need-returns
 returns c =
-    rw (c .if1 .taken, c .before .before .before .unit .ensures, c .before .unit2 .ensures) (tip-entries _ _ _ .1)
+    let c1 = c .before .before .before in
+    rw (c .if1 .taken, c1 .unit .ensures, c .before .unit2 .ensures) (tip-entries _ _ _ .1)
 
 mul-result-2 : tie.Need-mul-result-2
 mul-result-2 c =
@@ -59,7 +60,8 @@ mul-result-2 c =
 -- symbol tips are asked for
 returns-2 : tie.Need-returns-2
 returns-2 c =
-    rw (c .if1 .left, c .before .before .before .unit .ensures, c .before .unit2 .ensures) (tip-entries _ _ _ .0)
+    let c1 = c .before .before .before in
+    rw (c .if1 .left, c1 .unit .ensures, c .before .unit2 .ensures) (tip-entries _ _ _ .0)
 
 pub tip-at-spec : {M : Type 1} → statement M
 tip-at-spec =

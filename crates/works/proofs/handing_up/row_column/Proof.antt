@@ -23,7 +23,8 @@ table c =
 
 work-rows-requires : tie.Need-work-rows-requires
 work-rows-requires c κs =
-    let call = c .before .before .before .before .before .before .before .before in
+    let c1 = c .before .before .before .before .before .before .before .before in
+    let call = c1 in
     let I = table call in
     let j = call .args .j in
     let parts = hand-up-parts I j (length (call .args .row .now)) (length (call .args .rows .now)) (call .pre) in
@@ -31,7 +32,8 @@ work-rows-requires c κs =
 
 root-place-requires : tie.Need-root-place-requires
 root-place-requires c κs =
-    let far = c .before .before .before .before .before .before .before .before in
+    let c1 = c .before .before .before .before .before .before .before .before in
+    let far = c1 in
     let call = far .before .before .before .before in
     let I = table call in
     let j = call .args .j in
@@ -40,8 +42,10 @@ root-place-requires c κs =
 
 copy-row-requires : tie.Need-copy-row-requires
 copy-row-requires c κs =
-    let far = c .before .before .before .before .before .before .before .before in
-    let work-rows = c .before .before .before .before .before .work-rows in
+    let c1 = c .before .before .before .before .before in
+    let c2 = c1 .before .before .before in
+    let far = c2 in
+    let work-rows = c1 .work-rows in
     let call = far .before .before .before .before .before .before in
     let I = table call in
     let j = call .args .j in
@@ -61,9 +65,12 @@ same-length-2 c = search needs
 
 returns : tie.Need-returns
 returns c =
-    let far = c .before .before .before .before .before .before .before .before in
-    let copy-row = c .before .before .copy-row in
-    let root-place = c .before .before .before .before .root-place in
+    let c1 = c .before .before in
+    let c2 = c1 .before .before in
+    let c3 = c2 .before .before .before .before in
+    let far = c3 in
+    let copy-row = c1 .copy-row in
+    let root-place = c2 .root-place in
     let work-rows = far .work-rows in
     let call = far .before .before .before .before .before .before .before .before .before in
     let I = table call in

@@ -20,7 +20,8 @@ table c =
 
 work-rows-requires : tie.Need-work-rows-requires
 work-rows-requires c κs =
-    let call = c .before .before .before .before .before .before .before .before in
+    let c1 = c .before .before .before .before .before .before .before .before in
+    let call = c1 in
     let I = table call in
     let j = call .args .j in
     let parts =
@@ -30,8 +31,10 @@ work-rows-requires c κs =
 
 states-down-requires : tie.Need-states-down-requires
 states-down-requires c κs =
-    let far = c .before .before .before .before .before .before .before .before in
-    let work-rows = c .before .before .before .before .work-rows in
+    let c1 = c .before .before .before .before in
+    let c2 = c1 .before .before .before .before in
+    let far = c2 in
+    let work-rows = c1 .work-rows in
     let call = far .before .before .before .before .before in
     let I = table call in
     let j = call .args .j in
@@ -59,8 +62,11 @@ same-length-2 c = search needs
 
 returns : tie.Need-returns
 returns c =
-    let far = c .before .before .before .before .before .before .before .before in
-    let work-rows = c .before .before .before .before .before .before .before .work-rows in
+    let c1 = c .before .before in
+    let c2 = c1 .before .before .before .before .before in
+    let c3 = c2 .before in
+    let far = c3 in
+    let work-rows = c2 .work-rows in
     let call = far .before .before .before .before .before .before .before .before in
     let I = table call in
     let j = call .args .j in
@@ -69,7 +75,7 @@ returns c =
     in
     let rows = work-rows .last .1 .1 .1 .1 .1 .1 .1 .1 .0 in
     let held = work-rows .ensures .holds in
-    let down = c .before .before .states-down .ensures in
+    let down = c1 .states-down .ensures in
     record {
       labels = labels-right I (parts .table) j (parts .which .0) rows held (call .args .start) _ (parts .which .1)
           (down .values);

@@ -24,7 +24,9 @@ table c =
     (c .args .cells .now) (c .args .handed .now)
 
 tips-of-requires : tie.Need-tips-of-requires Inv-loop μ-loop
-tips-of-requires c κs = c .before .before .before .before .before .before .before .pre .0
+tips-of-requires c κs =
+    let start = c .before .before .before .before .before .before .before in
+    start .pre .0
 
 loop-holds : tie.Need-loop-holds Inv-loop μ-loop
 loop-holds c =
@@ -56,7 +58,8 @@ mul-scores c =
     let I = table start in
     let parts = score-parts I (length (start .args .scores .now)) (length (start .args .rows .now)) (start .pre) in
     let inv = turn .inv .1 in
-    let long = inv .each .kept .long in let room = parts .room .0 in omega (arith, start .good)
+    let long = inv .each .kept .long in
+    let room = parts .room .0 in omega (arith, start .good)
 
 slice-write-scores : tie.Need-slice-write-scores Inv-loop μ-loop
 slice-write-scores c =
@@ -65,7 +68,9 @@ slice-write-scores c =
     let start = far .before .before .before .before .before .before in
     let I = table start in
     let parts = score-parts I (length (start .args .scores .now)) (length (start .args .rows .now)) (start .pre) in
-    let inv = turn .inv .1 in let long = inv .each .kept .long in let room = parts .room .0 in omega arith
+    let inv = turn .inv .1 in
+    let long = inv .each .kept .long in
+    let room = parts .room .0 in omega arith
 
 add-j : tie.Need-add-j Inv-loop μ-loop
 add-j c =

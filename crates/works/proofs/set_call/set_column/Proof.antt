@@ -20,7 +20,8 @@ table c =
 
 work-rows-requires : tie.Need-work-rows-requires
 work-rows-requires c κs =
-    let call = c .before .before .before .before .before .before .before .before in
+    let c1 = c .before .before .before .before .before .before .before .before in
+    let call = c1 in
     let I = table call in
     let j = call .args .j in
     let parts =
@@ -29,8 +30,10 @@ work-rows-requires c κs =
 
 sets-down-requires : tie.Need-sets-down-requires
 sets-down-requires c κs =
-    let far = c .before .before .before .before .before .before .before .before in
-    let work-rows = c .before .before .before .before .work-rows in
+    let c1 = c .before .before .before .before in
+    let c2 = c1 .before .before .before .before in
+    let far = c2 in
+    let work-rows = c1 .work-rows in
     let call = far .before .before .before .before .before in
     let I = table call in
     let j = call .args .j in
@@ -57,8 +60,11 @@ same-length-2 c = search needs
 
 returns : tie.Need-returns
 returns c =
-    let far = c .before .before .before .before .before .before .before .before in
-    let work-rows = c .before .before .before .before .before .before .before .work-rows in
+    let c1 = c .before .before in
+    let c2 = c1 .before .before .before .before .before in
+    let c3 = c2 .before in
+    let far = c3 in
+    let work-rows = c2 .work-rows in
     let call = far .before .before .before .before .before .before .before .before in
     let I = table call in
     let j = call .args .j in
@@ -66,7 +72,7 @@ returns c =
     sets-parts I j (call .args .start) (length (call .args .sets .now)) (length (call .args .rows .now)) (call .pre) in
     let rows = work-rows .last .1 .1 .1 .1 .1 .1 .1 .1 .0 in
     let held = work-rows .ensures .holds in
-    let down = c .before .before .sets-down .ensures in
+    let down = c1 .sets-down .ensures in
     record {
       each = record {
         each = sets-right I (parts .table) j (parts .which .0) rows held (call .args .start) _ (parts .which .1)

@@ -23,7 +23,8 @@ table c =
 
 work-rows-requires : tie.Need-work-rows-requires
 work-rows-requires c κs =
-    let call = c .before .before .before .before .before .before .before .before .before in
+    let c1 = c .before .before .before .before .before .before .before .before .before in
+    let call = c1 in
     let I = table call in
     let j = call .args .j in
     let parts =
@@ -33,8 +34,10 @@ work-rows-requires c κs =
 
 states-down-requires : tie.Need-states-down-requires
 states-down-requires c κs =
-    let far = c .before .before .before .before .before .before .before .before in
-    let work-rows = c .before .before .before .before .work-rows in
+    let c1 = c .before .before .before .before in
+    let c2 = c1 .before .before .before .before in
+    let far = c2 in
+    let work-rows = c1 .work-rows in
     let call = far .before .before .before .before .before .before in
     let I = table call in
     let j = call .args .j in
@@ -53,7 +56,8 @@ states-down-requires c κs =
 
 sets-down-requires : tie.Need-sets-down-requires
 sets-down-requires c κs =
-    let far = c .before .before .before .before .before .before .before .before in
+    let c1 = c .before .before .before .before .before .before .before .before in
+    let far = c1 in
     let farther = far .before .before .before .before .before .before .before .before in
     let work-rows = far .before .work-rows in
     let call = farther .before .before .before in
@@ -74,7 +78,8 @@ sets-down-requires c κs =
 
 root-least-requires : tie.Need-root-least-requires
 root-least-requires c κs =
-    let far = c .before .before .before .before .before .before .before .before in
+    let c1 = c .before .before .before .before .before .before .before .before in
+    let far = c1 in
     let farther = far .before .before .before .before .before .before .before .before in
     let work-rows = far .before .before .before .before .before .work-rows in
     let call = farther .before .before .before .before .before .before .before in
@@ -100,9 +105,11 @@ same-length-3 c = search needs
 
 returns : tie.Need-returns
 returns c =
-    let far = c .before .before .before .before .before .before .before .before in
+    let c1 = c .before .before .before .before in
+    let c2 = c1 .before .before .before .before in
+    let far = c2 in
     let farther = far .before .before .before .before .before .before .before .before in
-    let sets-down = c .before .before .before .before .sets-down in
+    let sets-down = c1 .sets-down in
     let states-down = far .before .states-down in
     let work-rows = far .before .before .before .before .before .before .work-rows in
     let call = farther .before .before .before .before .before .before .before .before in
