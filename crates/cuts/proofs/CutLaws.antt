@@ -11,6 +11,7 @@ use Rattle.parsimony.specs.Row.{row}
 use Rattle.parsimony.specs.Table.{symbol, handed, Node, leaf, inner, kidsOf, kidsAt, TreeRules}
 use Rattle.parsimony.specs.Test.{at}
 use Rattle.parsimony.specs.Tree.{Has, Rooted, Descent}
+use Rattle.parsimony.proofs.NodeLaws.{leaf-inner}
 use Rattle.parsimony.proofs.Order.{by-lt, by-eq, pick-true, pick-false, at-other, downward}
 use Rattle.parsimony.proofs.RowLaws.{row-tip}
 use Rattle.parsimony.proofs.ShapeLaws.{rules-rooted}
@@ -21,7 +22,7 @@ use Rattle.answers.specs.Rules.{All}
 use Rattle.answers.proofs.RootLaws.{rules-sound, rules-node}
 use Rattle.cuts.specs.Cut.{CutAt, marked, branch, inPart, inRest}
 use Rattle.cuts.specs.Piece.{Choice}
-use Rattle.cuts.proofs.KeptLaws.{Stands, leaf-inner}
+use Rattle.cuts.proofs.KeptLaws.{Stands}
 
 marked-own : (v mark : ℕ) → marked v v mark ≡ 1
 unfolding marked

@@ -66,9 +66,6 @@ at-both u m a b f g =
     by-eq u a (λ e. at-same u 1 a e ∙ sym (at-same m 1 b (f e))) (λ ne. at-other u 1 a ne ∙ sym (at-other m 1 b (λ e.
     ne (g e))))
 
-pub leaf-inner : {k : Kind} {r a b : ℕ} → leaf k r ≡ inner a b → ⊥
-leaf-inner e = let z : _≡_ {A = ℕ} 0 1 = cc in omega arith
-
 module _ (I : Input) (rules : All (tableRules I [])) (K : Choice) (top : ℕ) (stands : Stands I K top) where
   abbrev n : ℕ
   n = nodes I

@@ -10,6 +10,7 @@ use lib.ListN.{length}
 use Rattle.parsimony.specs.Table.{symbol, handed, Node, leaf, inner, kidsOf, childUses, TreeRules, SizeRules}
 use Rattle.parsimony.specs.Test.{at}
 use Rattle.parsimony.specs.Tree.{Has, each, uses}
+use Rattle.parsimony.proofs.NodeLaws.{leaf-inner}
 use Rattle.parsimony.proofs.Order.{by-lt}
 use Rattle.parsimony.proofs.ShapeLaws.{rules-odd}
 use Rattle.parsimony.proofs.Sums.{sum-le, sum-before}
@@ -21,7 +22,7 @@ use Rattle.cuts.specs.Numbering.{renumber}
 use Rattle.cuts.specs.Piece.{Choice, renumbered, rightEntry, nodeOf, nodeNew, keptNodes, piece}
 use Rattle.parsimony.proofs.FilledLaws.{list-long}
 use Rattle.cuts.proofs.NumberLaws.{renumber-lt, renumber-mono, renumber-most, renumber-one}
-use Rattle.cuts.proofs.KeptLaws.{Stands, keep-le, at-both, leaf-inner, from, piece-some}
+use Rattle.cuts.proofs.KeptLaws.{Stands, keep-le, at-both, from, piece-some}
 use Rattle.cuts.proofs.PieceNodes.{piece-nodes, piece-node, sum-piece}
 use Rattle.cuts.proofs.PieceRows.{piece-rows}
 

@@ -18,6 +18,7 @@ use Rattle.parsimony.proofs.ColumnLaws.{place}
 use Rattle.parsimony.proofs.Order.{by-eq}
 use Rattle.parsimony.proofs.RowLaws.{row-tip}
 use Rattle.parsimony.proofs.Size.{row-open, bound-root, bound-fits}
+use Rattle.parsimony.proofs.TreeLaws.{two-not-tip}
 use Rattle.answers.specs.CallRules.{tableRules}
 use Rattle.answers.specs.Input.{Input, nodes, nodeIn, tipsIn, column}
 use Rattle.answers.specs.Rules.{All}
@@ -59,9 +60,6 @@ tip-handed : (x : Node) → isTip handed x ≡ 1 → (q : ℕ) × (x ≡ leaf ha
 tip-handed (leaf symbol r) e = absurd (let z : _≡_ {A = ℕ} 0 1 = e in omega arith)
 tip-handed (leaf handed r) e = (r, refl)
 tip-handed (inner a b) e = absurd (let z : _≡_ {A = ℕ} 0 1 = e in omega arith)
-
-pub two-not-tip : (a b : ℕ) → two a b ≡ tip → ⊥
-two-not-tip a b e = let z : _≡_ {A = ℕ} 0 1 = cc in omega arith
 
 -- cells filled with allowed sets keep the rules
 pub cells-rules : (s t c : ℕ) (cell : ℕ → ℕ → ℕ) → c ≤ 65535

@@ -14,6 +14,7 @@ use Rattle.parsimony.specs.Tree.{tip}
 use Rattle.parsimony.proofs.ColumnLaws.{place}
 use Rattle.parsimony.proofs.RowLaws.{row-tip}
 use Rattle.parsimony.proofs.ShapeLaws.{row-within}
+use Rattle.parsimony.proofs.TreeLaws.{two-not-tip}
 use Rattle.answers.specs.CallRules.{tableRules}
 use Rattle.answers.specs.Input.{Input, nodes, nodeIn, tipsIn, column}
 use Rattle.answers.specs.Rules.{All}
@@ -22,7 +23,7 @@ use Rattle.cuts.specs.Cut.{span, laterCell, laterEntry}
 use Rattle.cuts.specs.Cuttable.{Cuttable}
 use Rattle.cuts.specs.Sits.{Sits}
 use Rattle.cuts.proofs.FilledLaws.{cells-at, entries-at}
-use Rattle.cuts.proofs.PieceRules.{cells-rules, entries-rules, two-not-tip}
+use Rattle.cuts.proofs.PieceRules.{cells-rules, entries-rules}
 use Rattle.cuts.proofs.SitsLaws.{sits-rows}
 
 module _ (I : Input) (old : Cuttable I) (first count : ℕ) (within : first + count ≤ I .c) where
