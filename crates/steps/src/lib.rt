@@ -145,10 +145,10 @@ pub fn copy_row(source: &[u32], from: usize, rows: &mut [u32], at: usize, s: usi
     requires { ⌜ (from + s ≤ length (now source)) × (at + s ≤ length (now rows)) ⌝ }
     ensures { λ r. ⌜ Wrote at s (entryAt (now (source .entry)) from) (now (rows .entry)) (now (rows .exit)) ⌝ }
 {
-    let mut x = 0;
-    while x < s {
-        rows[at + x] = source[from + x];
-        x += 1;
+    let mut copied = 0;
+    while copied < s {
+        rows[at + copied] = source[from + copied];
+        copied += 1;
     }
 }
 

@@ -1,4 +1,4 @@
--- `copy_row` meets its contract. The loop's invariant: the entries of the states below x are written.
+-- `copy_row` meets its contract. The loop's invariant: the entries copied so far are written.
 -- The measure is what is left of the states. Assumes nothing.
 use mathlib.Core.Path.{subst, _≡_, refl}
 use Prim.Native.Nat.{_-_, _≤_}
@@ -11,10 +11,10 @@ use Rattle.steps.specs.Wrote.{Wrote}
 use Rattle.steps.proofs.copy_row.Tie as tie
 
 abbrev Inv-loop : tie.InvT-loop
-Inv-loop source from rows₀ at s x₀ rows x = (x ≤ s) × Wrote at x (entryAt source from) rows₀ rows
+Inv-loop source from rows₀ at s copied₀ rows copied = (copied ≤ s) × Wrote at copied (entryAt source from) rows₀ rows
 
 abbrev μ-loop : tie.MeasureT-loop
-μ-loop source from rows₀ at s x₀ rows x = s - x
+μ-loop source from rows₀ at s copied₀ rows copied = s - copied
 
 loop-holds : tie.Need-loop-holds Inv-loop μ-loop
 loop-holds c =
@@ -38,8 +38,8 @@ mul-rows-2 c = search needs
 slice-write-rows : tie.Need-slice-write-rows Inv-loop μ-loop
 slice-write-rows c = search needs
 
-add-x : tie.Need-add-x Inv-loop μ-loop
-add-x c = search needs
+add-copied : tie.Need-add-copied Inv-loop μ-loop
+add-copied c = search needs
 
 loop-less : tie.Need-loop-less Inv-loop μ-loop
 loop-less c = search needs
@@ -61,7 +61,7 @@ returns c =
     let turn = c .before .loop in
     let start = c .before .before in
     let inv = turn .inv in
-    let done : turn .x ≡ start .args .s = omega arith in
+    let done : turn .copied ≡ start .args .s = omega arith in
     subst
     (λ z. Wrote (start .args .at) z (entryAt (start .args .source .now) (start .args .from)) (start .args .rows .now)
     (turn .rows))
@@ -80,7 +80,7 @@ copy-row-spec =
     add-rows-2
     mul-rows-2
     slice-write-rows
-    add-x
+    add-copied
     loop-less
     loop-again
     same-length
