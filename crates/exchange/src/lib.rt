@@ -80,9 +80,10 @@ fn give_line(
     if out.len() < length {
         return ROOM;
     }
+    let answer = 256 * (length as u64);
     let text = &line[..];
     put_text(&text[0..length], out, 0);
-    256 * (length as u64)
+    answer
 }
 
 // The line of a column of the sheet, without its line end: the low 8 bits of the result are the number; bits 8 to 31 the

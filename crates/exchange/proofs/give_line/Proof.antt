@@ -43,6 +43,15 @@ returns c =
     let after = c1 .sheet-line .last .1 .1 .1 .1 .1 .1 .1 .1 .1 .1 .0 in
     give-room _ _ _ _ _ _ (start .pre .0) _ after _ _ (c1 .sheet-line .ensures .0) _ (c .if1 .taken)
 
+mul-answer : tie.Need-mul-answer
+mul-answer c =
+    let c1 = c .before .before .before .before .before in
+    let start = c1 .before .before .before .before .before .before .before .before .before .before .before in
+    let after = c1 .sheet-line .last .1 .1 .1 .1 .1 .1 .1 .1 .1 .1 .0 in
+    let same = c1 .sheet-line .kept .1 .1 .1 .1 .1 .1 .1 .1 .1 .1 .0 in
+    let inside = printed-inside _ _ _ _ _ _ (start .pre .0) _ after _ _ (c1 .sheet-line .ensures .0) same in
+    record { fits = omega arith }
+
 slice-aggregate-text : tie.Need-slice-aggregate-text
 slice-aggregate-text c = search needs
 
@@ -62,16 +71,6 @@ part-put-text-end c =
 
 put-text-requires : tie.Need-put-text-requires
 put-text-requires c κs = search needs
-
-mul-result : tie.Need-mul-result
-mul-result c =
-    let c1 = c .before .before .before .before .before .before .before .before .before .before .before in
-    let start = c1 .before .before .before .before .before .before .before .before .before .before .before in
-    let after = c1 .sheet-line .last .1 .1 .1 .1 .1 .1 .1 .1 .1 .1 .0 in
-    let same2 = c1 .sheet-line .kept .1 .1 .1 .1 .1 .1 .1 .1 .1 .1 .0 in
-    let inside = printed-inside _ _ _ _ _ _ (start .pre .0) _ after _ _ (c1 .sheet-line .ensures .0) same2 in
-    let same = same2 in
-    record { fits = omega arith }
 
 same-length : tie.Need-same-length
 same-length c = search needs
@@ -95,11 +94,11 @@ give-line-spec =
     slice-aggregate-sheet-line-4
     sheet-line-requires
     returns
+    mul-answer
     slice-aggregate-text
     sub-put-text
     part-put-text-start
     part-put-text-end
     put-text-requires
-    mul-result
     same-length
     returns-2)
