@@ -1,59 +1,22 @@
--- Packing loses nothing: from a code the number and what is carried are read back; what is carried is small.
+-- The code of set counting, and a promise from a start that a number stands for.
 -- Assumes nothing.
 use mathlib.Core.List.{List, []}
 use mathlib.Core.Path.{_≡_, subst}
-use Prim.Native.Nat.{ℕ, _+_, _*_, _/_, _%_, _≤_, _<_}
+use Prim.Native.Nat.{ℕ, _+_, _*_, _<_}
 use native.Mathlib.Omega.{arith}
 use lib.ListN.{length}
 use Rattle.parsimony.specs.Barred.{barred}
-use Rattle.answers.specs.Answers.{numberOf, carriedBy, Given}
-use Rattle.answers.specs.CallRules.{matrixRules}
+use Rattle.answers.specs.Answers.{carriedBy}
 use Rattle.answers.specs.Input.{Input, input}
 use Rattle.answers.specs.declared.Answer.{Answer}
-use Rattle.answers.specs.declared.Answer.the-variants.{Done, Refused}
-use Rattle.answers.specs.declared.Refusal.the-variants.{Size, Shape, Costs, Cells, Rows, Which, NotUnit, Room}
+use Rattle.answers.specs.declared.Answer.the-variants.{Refused}
 use Rattle.answers.specs.declared.Start.{Start}
 use Rattle.scorer.specs.Counts.{answerOf, changesOf}
 use Rattle.scorer.specs.Promises.{CountedBySets}
 use Rattle.scorer.specs.declared.Counted.{Counted}
 use Rattle.scorer.specs.declared.Counted.the-variants as Counts
 use Rattle.scorer.proofs.CountResult.{count-small}
-use Rattle.calls.specs.Codes.{codeOf}
-
-number-small : (a : Answer) → numberOf a ≤ 8
-number-small Done = omega arith
-number-small (Refused Size) = omega arith
-number-small (Refused (Shape v)) = omega arith
-number-small (Refused Costs) = omega arith
-number-small (Refused Cells) = omega arith
-number-small (Refused Rows) = omega arith
-number-small (Refused Which) = omega arith
-number-small (Refused NotUnit) = omega arith
-number-small (Refused Room) = omega arith
-
--- the low 8 bits are the number
-pub code-number : (a : Answer) → codeOf a % 256 ≡ numberOf a
-code-number a = let n = number-small a in omega arith
-
--- the rest is what is carried
-pub code-carried : (a : Answer) → codeOf a / 256 ≡ carriedBy a
-code-carried a = let n = number-small a in omega arith
-
--- under rules that begin with SIZE's and SHAPE's, what an answer carries is below 1,023
-pub carried-small : (I : Input) (more : List (Type 0)) (a : Answer) → Given (matrixRules I more) (I .left) (I .right) a
-    → carriedBy a < 1023
-carried-small I more Done g = omega arith
-carried-small I more (Refused Size) g = omega arith
-carried-small I more (Refused (Shape v)) g =
-    let within = g .given .1 .within in
-    let most = g .given .0 .0 .most in
-    omega arith
-carried-small I more (Refused Costs) g = omega arith
-carried-small I more (Refused Cells) g = omega arith
-carried-small I more (Refused Rows) g = omega arith
-carried-small I more (Refused Which) g = omega arith
-carried-small I more (Refused NotUnit) g = omega arith
-carried-small I more (Refused Room) g = omega arith
+use Rattle.codes.proofs.CodeLaws.{carried-small}
 
 -- sums with nothing
 pub zero-first : (k : ℕ) → 256 * k ≡ 0 + 256 * 0 + 256 * k

@@ -2,13 +2,18 @@
 -- Assumes nothing.
 use mathlib.Core.List.{List}
 use mathlib.Core.Path.{_≡_}
-use Prim.Native.Nat.{ℕ}
+use Prim.Native.Nat.{ℕ, _+_, _*_}
 use Rattle.answers.specs.Input.{Input}
 use Rattle.answers.specs.declared.Answer.{Answer}
 use Rattle.answers.specs.declared.Start.{Start}
 use Rattle.scorer.specs.Promises.{Scored, Labelled, SetsFound, HandedUp, CountedBySets}
 use Rattle.scorer.specs.declared.Counted.{Counted}
-use Rattle.calls.specs.Codes.{codeOf, countCode}
+use Rattle.codes.specs.Codes.{codeOf}
+use Rattle.scorer.specs.Counts.{answerOf, changesOf}
+
+-- set counting's code: the change count stands above the number when done
+abbrev pub countCode : Counted → ℕ
+countCode a = codeOf (answerOf a) + 256 * changesOf a
 
 pub record ScoredCode (I : Input) (scores rows : List ℕ) (code : ℕ) (scores' rows' : List ℕ) : Type 0 where
   pub answer : Answer

@@ -1,4 +1,3 @@
 -- What the C interface of the five table calls promises.
 -- Assumes nothing.
-pub mod Codes
 pub mod Coded

@@ -5,53 +5,13 @@ ghost use mathlib.Core.List.{[]};
 ghost use Prim.Native.Nat.{_<_};
 ghost use Rattle.answers.specs.Answers.{carriedBy};
 ghost use Rattle.answers.specs.Input.{input};
-ghost use Rattle.calls.specs.Coded.{ScoredCode, LabelledCode, SetsCode, HandedUpCode, CountCode};
-ghost use Rattle.calls.specs.Codes.{codeOf, countCode, startOf};
+ghost use Rattle.calls.specs.Coded.{countCode, ScoredCode, LabelledCode, SetsCode, HandedUpCode, CountCode};
+ghost use Rattle.codes.specs.Codes.{startOf};
 ghost use Rattle.scorer.specs.Counts.{answerOf, changesOf};
-use answers::Answer;
-use answers::Refusal;
-use answers::Start;
+use codes::code;
+use codes::refusal_code;
+use codes::start_of;
 use scorer::Counted;
-
-const NO_START: u64 = 18446744073709551615;
-
-// A refusal's number and, for SHAPE, its node.
-fn refusal_code(refusal: Refusal) -> u64
-    requires { ⌜ carriedBy (Answer.Refused refusal) < 72057594037927936 ⌝ }
-    ensures { λ r. ⌜ r ≡ codeOf (Answer.Refused refusal) ⌝ }
-{
-    match refusal {
-        Refusal::Size => 1,
-        Refusal::Shape(v) => 2 + 256 * (v as u64),
-        Refusal::Costs => 3,
-        Refusal::Cells => 4,
-        Refusal::Rows => 5,
-        Refusal::Which => 6,
-        Refusal::NotUnit => 7,
-        Refusal::Room => 8,
-    }
-}
-
-// An answer's number and what it carries.
-fn code(answer: Answer) -> u64
-    requires { ⌜ carriedBy answer < 72057594037927936 ⌝ }
-    ensures { λ r. ⌜ r ≡ codeOf answer ⌝ }
-{
-    match answer {
-        Answer::Done => 0,
-        Answer::Refused(refusal) => refusal_code(refusal),
-    }
-}
-
-// The start that a number stands for.
-fn start_of(x: u64) -> Start
-    ensures { λ r. ⌜ r ≡ startOf x ⌝ }
-{
-    if x == NO_START {
-        return Start::Free;
-    }
-    Start::Given(x as usize)
-}
 
 // Scoring: the score of each column.
 #[no_mangle]

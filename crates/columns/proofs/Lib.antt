@@ -1,6 +1,5 @@
--- Laws of the work on one column: the row room, the rows of a table's nodes and the steps of counting by sets.
+-- Laws of the rows of one column: places, the row room and the rows of a table's nodes.
 -- Assumes nothing.
 pub mod PlaceLaws
 pub mod RoomLaws
 pub mod RowSteps
-pub mod CountSteps

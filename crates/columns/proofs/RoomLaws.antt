@@ -13,8 +13,8 @@ use Rattle.parsimony.specs.Sound.{Sound}
 use Rattle.parsimony.proofs.ColumnLaws.{place}
 use Rattle.parsimony.proofs.Order.{by-eq}
 use Rattle.parsimony.proofs.Size.{bound-root, bound-rough, row-range}
-use Rattle.steps.specs.Lane.{Within, Calm}
-use Rattle.steps.specs.Wrote.{Wrote}
+use Rattle.entries.specs.Lane.{Within, Calm}
+use Rattle.entries.specs.Wrote.{Wrote}
 use Rattle.columns.specs.RowRoom.{Holds, RowRoom}
 use Rattle.columns.proofs.PlaceLaws.{row-inside}
 

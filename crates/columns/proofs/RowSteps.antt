@@ -18,7 +18,7 @@ use Rattle.parsimony.proofs.ColumnLaws.{place, column-sound}
 use Rattle.parsimony.proofs.LeastLaws.{least-same}
 use Rattle.parsimony.proofs.RowLaws.{row-tip, row-inner}
 use Rattle.parsimony.proofs.ShapeLaws.{row-within}
-use Rattle.steps.specs.Lane.{Calm, entryAt, lane, joinAt}
+use Rattle.entries.specs.Lane.{Calm, entryAt, lane, joinAt}
 use Rattle.trees.proofs.NodeLaws.{tips-most}
 use Rattle.columns.specs.Ready.{Ready, handedTips}
 use Rattle.columns.specs.RowRoom.{Holds}

@@ -1,5 +1,4 @@
--- What the work on one column promises, over the definitions of `parsimony`.
+-- What the rows of one column promise, over the definitions of `parsimony`.
 -- Assumes nothing.
 pub mod Ready
 pub mod RowRoom
-pub mod Prelims

@@ -14,7 +14,7 @@ use Rattle.parsimony.proofs.LeastLaws.{low-within}
 use Rattle.parsimony.proofs.Order.{by-eq, by-lt}
 use Rattle.parsimony.proofs.TreeLaws.{parent-unique, parent-has}
 use Rattle.descents.specs.Down.{chosen, Passed, Descended}
-use Rattle.steps.specs.Lane.{lane}
+use Rattle.entries.specs.Lane.{lane}
 
 -- a chosen state is a state
 pub chosen-low : {s : ℕ} {costs : List ℕ} → CostRules s costs → (rows : List ℕ) (u x : ℕ) → chosen s costs rows u x < s

@@ -10,8 +10,8 @@ use Rattle.parsimony.specs.Allowed.{CostRules}
 use Rattle.parsimony.specs.Table.{inner, Legal, TreeRules, nodeAt, kidsOf, kidsAt}
 use Rattle.parsimony.specs.Tree.{Has, Rooted}
 use Rattle.parsimony.proofs.ShapeLaws.{rules-rooted}
-use Rattle.steps.specs.Lane.{Cheap}
-use Rattle.steps.proofs.LaneLaws.{cheap-row}
+use Rattle.entries.specs.Lane.{Cheap}
+use Rattle.entries.proofs.LaneLaws.{cheap-row}
 
 module _ {left right : List ℕ} (legal : Legal left right) where
   -- a legal table has a node

@@ -6,7 +6,8 @@ use Prim.Native.Nat.{ℕ, _*_, _-_, _≤_}
 use lib.ListN.{length, getD}
 use Rattle.parsimony.specs.Least.{low}
 use Rattle.parsimony.specs.Tree.{Kids, Has, Descent}
-use Rattle.steps.specs.Lane.{lane, joined}
+use Rattle.entries.specs.Lane.{lane}
+use Rattle.steps.specs.Ties.{joined}
 
 -- the state of child u under a parent in state x, by its row in the room: the lowest that reaches the least
 unfoldable pub chosen : ℕ → List ℕ → List ℕ → ℕ → ℕ → ℕ

@@ -5,7 +5,7 @@ ghost use lib.ListN.{length};
 ghost use Rattle.parsimony.specs.Allowed.{CostRules};
 ghost use Rattle.parsimony.specs.Table.{Legal, kidsAt};
 ghost use Rattle.descents.specs.Down.{chosen, settled, Passed, Descended};
-ghost use Rattle.steps.specs.Lane.{Calm};
+ghost use Rattle.entries.specs.Lane.{Calm};
 use steps::child_set;
 use steps::choose;
 use trees::nodes::Node;

@@ -3,8 +3,8 @@
 use mathlib.Core.List.{List}
 use mathlib.Core.Path.{_≡_, sym, _∙_}
 use Prim.Native.Nat.{ℕ, _/_, _%_, _<_}
-use native.Mathlib.Omega.{arith}
 use lib.ListN.{length}
+use Rattle.codes.proofs.CodeLaws.{packed-number, packed-carried}
 use Rattle.exchange.specs.Entry.{Outcome, done, refused, codeOf, Entered}
 
 -- two outcomes of one call are the same: the code, and every byte lent
@@ -24,10 +24,10 @@ carriedOf (refused number carried) = carried
 -- both are read back from the code, where the number is below 256
 pub code-number : (o : Outcome) → numberOf o < 256 → codeOf o % 256 ≡ numberOf o
 unfolding codeOf
-code-number (done line) h = omega arith
-code-number (refused number carried) h = omega arith
+code-number (done line) h = packed-number 0 (length line) h
+code-number (refused number carried) h = packed-number number carried h
 
 pub code-carried : (o : Outcome) → numberOf o < 256 → codeOf o / 256 ≡ carriedOf o
 unfolding codeOf
-code-carried (done line) h = omega arith
-code-carried (refused number carried) h = omega arith
+code-carried (done line) h = packed-carried 0 (length line) h
+code-carried (refused number carried) h = packed-carried number carried h

@@ -8,6 +8,7 @@ use borrow.Author.Tests.{lt-ltb, le-ltb}
 use lib.ListN.{length, take, drop}
 use lib.Seq.{take-append-seam}
 use Rattle.parsimony.proofs.Order.{pick-true, pick-false}
+use Rattle.codes.specs.Codes.{packed, faultCode}
 use Rattle.exchange.specs.Entry.{done, refused, faulted, given, asked, outcome, codeOf, leaves, Entered}
 use Rattle.lines.specs.declared.Fault.{Fault}
 use Rattle.printer.specs.SheetLine.{onJudged, lineIn, Ready, PrintedOf}
@@ -24,9 +25,8 @@ use Rattle.texts.proofs.PutLaws.{put-whole}
 
 module _ (sheet : List ℕ) (j : ℕ) (out : List ℕ) where
   -- a fault of the sheet
-  pub entry-fault : (f : Fault) (code : ℕ) → judge sheet ≡ faulty f → code ≡ codeOf (faulted f) → Entered sheet j out
-      code out
-  unfolding outcome onJudged leaves
+  pub entry-fault : (f : Fault) (code : ℕ) → judge sheet ≡ faulty f → code ≡ faultCode f → Entered sheet j out code out
+  unfolding outcome onJudged codeOf leaves
   entry-fault f code is same =
       let told : outcome sheet j (length out) ≡ faulted f = ap (λ p. onJudged p faulted (asked sheet j (length out)))
       is in
@@ -60,7 +60,7 @@ module _ (sheet : List ℕ) (j : ℕ) (out : List ℕ) where
 
       -- done
       pub entry-done : (code : ℕ) (out' : List ℕ) → length (lineIn sheet has j) ≤ length out
-          → code ≡ 256 * length (lineIn sheet has j) → out' ≡ lineIn sheet has j ++ drop (length (lineIn sheet has
+          → code ≡ packed 0 (length (lineIn sheet has j)) → out' ≡ lineIn sheet has j ++ drop (length (lineIn sheet has
           j)) out
           → Entered sheet j out code out'
       unfolding given codeOf leaves
@@ -89,7 +89,7 @@ module _ (sheet : List ℕ) (s : Sheet) (costs left right : List ℕ) (j : ℕ) 
       let first : take (n - 0) (drop 0 line') ≡ text =
       part-first line' n ∙ ap₂ take size (starts .bytes) ∙ take-append-seam text (drop (length text) line) in
       entry-done sheet j out (ready .has) (ready .read .is) (ready .inside) (256 * n) out' (omega arith)
-      (ap (λ k. 256 * k) size) (put-whole (subst (λ l. Put l 0 out out' next) first put) (omega arith))
+      (omega arith) (put-whole (subst (λ l. Put l 0 out out' next) first put) (omega arith))
 
 -- no such column
 pub read-which : (sheet : List ℕ) (s : Sheet) (answer : Read) (table' : List (List ℕ))

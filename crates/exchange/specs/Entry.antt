@@ -2,10 +2,11 @@
 -- Assumes nothing.
 use mathlib.Core.List.{List, _++_}
 use mathlib.Core.Path.{_≡_}
-use Prim.Native.Nat.{ℕ, _+_, _*_}
+use Prim.Native.Nat.{ℕ}
 use lib.Dec.{ltb}
 use lib.ListN.{length, drop}
 use Rattle.parsimony.specs.Test.{pick}
+use Rattle.codes.specs.Codes.{packed}
 use Rattle.lines.specs.Fault.{faultNumber, faultLine}
 use Rattle.lines.specs.declared.Fault.{Fault}
 use Rattle.printer.specs.SheetLine.{onJudged, lineIn}
@@ -37,8 +38,8 @@ outcome sheet j room = onJudged (judge sheet) faulted (asked sheet j room)
 
 -- as one number: the low 8 bits the number, above them the bytes written when done, or what is carried
 unfoldable pub codeOf : Outcome → ℕ
-codeOf (done line) = 256 * length line
-codeOf (refused number carried) = number + 256 * carried
+codeOf (done line) = packed 0 (length line)
+codeOf (refused number carried) = packed number carried
 
 -- the output afterwards: the line and all beyond it as before; a refused call leaves it as it was
 unfoldable pub leaves : Outcome → List ℕ → List ℕ

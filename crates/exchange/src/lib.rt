@@ -1,12 +1,10 @@
 // The host's one entry: a sheet's bytes and a column number go in, that column's report line comes out.
 ghost use mathlib.Core.Path.{_≡_};
-ghost use Prim.Native.Nat.{_≤_};
 ghost use lib.ListN.{length};
-ghost use Rattle.exchange.specs.Entry.{Entered, codeOf, faulted};
-ghost use Rattle.lines.specs.Fault.{faultLine};
+ghost use Rattle.exchange.specs.Entry.{Entered};
 ghost use Rattle.printer.specs.SheetLine.{Ready};
+use codes::fault_code;
 use costs::flat_costs;
-use lines::Fault;
 use printer::sheet_line;
 use sheet::Read;
 use sheet::Sheet;
@@ -31,18 +29,6 @@ const BARRED: u32 = 4294967295;
 const WHICH: u64 = 6;
 
 const ROOM: u64 = 8;
-
-// A fault's number and its line.
-fn fault_code(fault: Fault) -> u64
-    requires { ⌜ faultLine fault ≤ 65536 ⌝ }
-    ensures { λ r. ⌜ r ≡ codeOf (faulted fault) ⌝ }
-{
-    match fault {
-        Fault::Sheet(line) => 9 + 256 * (line as u64),
-        Fault::Symbol(line) => 10 + 256 * (line as u64),
-        Fault::TreeText(line) => 11 + 256 * (line as u64),
-    }
-}
 
 // The line of column j of a sheet that has been read goes to the output, where it fits.
 fn give_line(

@@ -17,7 +17,7 @@ use Rattle.parsimony.proofs.Demand2.{column-score, column-count}
 use Rattle.answers.specs.CallRules.{countRules}
 use Rattle.answers.specs.Input.{Input, input, tipsIn, column}
 use Rattle.answers.specs.Rules.{All}
-use Rattle.columns.specs.Prelims.{Prelims}
+use Rattle.counts.specs.Prelims.{Prelims}
 use Rattle.scorer.specs.Promises.{CountWritten}
 
 -- no handed entries are right where no tip is handed

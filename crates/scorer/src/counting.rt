@@ -4,7 +4,7 @@ ghost use Rattle.answers.specs.Input.{input};
 ghost use Rattle.scorer.specs.Promises.{CountedBySets};
 use crate::Counted;
 use answers::Answer;
-use columns::count::fill_prelims;
+use counts::fill_prelims;
 use requests::count_tests;
 
 // Counting by sets: the preliminary set of each node in one column, and the number of changes.

@@ -1,6 +1,3 @@
 -- Laws of the loops of the steps.
-pub mod LeastSteps
-pub mod WroteLaws
-pub mod LaneLaws
-pub mod CellLaws
+-- Assumes nothing.
 pub mod SetSteps

@@ -27,7 +27,8 @@ use Rattle.parsimony.proofs.StateCountLaws.{
   both-true,
 }
 use Rattle.parsimony.proofs.StateSetLaws.{holds-true, holds-false, union-member, set-same}
-use Rattle.steps.specs.Lane.{entryAt, lane, reached, joined, leastSet}
+use Rattle.entries.specs.Lane.{entryAt, lane}
+use Rattle.steps.specs.Ties.{reached, joined, leastSet}
 
 gather-suc : (f : ℕ → Bool) (n : ℕ) → gather f (n + 1) ≡ gather f n + pick (f n) (2 ^ n) 0
 unfolding gather

@@ -1,4 +1,3 @@
--- What the steps on rows promise, over the definitions of `parsimony`.
+-- What the choosing and set steps promise, over the entries of rows.
 -- Assumes nothing.
-pub mod Wrote
-pub mod Lane
+pub mod Ties

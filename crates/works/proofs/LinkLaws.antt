@@ -25,7 +25,8 @@ use Rattle.descents.specs.Down.{chosen, settled}
 use Rattle.columns.specs.Ready.{Ready}
 use Rattle.columns.proofs.RowSteps.{ready-calm}
 use Rattle.columns.specs.RowRoom.{Holds}
-use Rattle.steps.specs.Lane.{entryAt, lane, Calm, joined, leastSet}
+use Rattle.entries.specs.Lane.{entryAt, lane, Calm}
+use Rattle.steps.specs.Ties.{joined, leastSet}
 
 -- a table that has passed the tests is ready to be worked
 pub rules-ready : (I : Input) → All (tableRules I []) → (j : ℕ) → j < I .c

@@ -32,8 +32,8 @@ use Rattle.answers.specs.Rules.{All}
 use Rattle.answers.proofs.RootLaws.{rules-node, rules-sound}
 use Rattle.descents.specs.Down.{chosen, settled}
 use Rattle.columns.specs.RowRoom.{Holds}
-use Rattle.steps.specs.Lane.{entryAt}
-use Rattle.steps.specs.Wrote.{Wrote}
+use Rattle.entries.specs.Lane.{entryAt}
+use Rattle.entries.specs.Wrote.{Wrote}
 use Rattle.works.specs.Lent.{Listed}
 use Rattle.works.specs.Results.{IsEntry}
 use Rattle.works.proofs.LinkLaws.{chosen-is, settled-is}

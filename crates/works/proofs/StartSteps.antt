@@ -19,7 +19,8 @@ use Rattle.answers.specs.declared.Start.the-variants.{Free, Given}
 use Rattle.answers.proofs.RootLaws.{rules-sound}
 use Rattle.descents.specs.Down.{chosen, settled}
 use Rattle.columns.specs.RowRoom.{Holds}
-use Rattle.steps.specs.Lane.{entryAt, leastSet}
+use Rattle.entries.specs.Lane.{entryAt}
+use Rattle.steps.specs.Ties.{leastSet}
 use Rattle.roots.specs.Starts.{stateOf}
 use Rattle.works.specs.Results.{IsLabelling, IsSet}
 use Rattle.works.proofs.LinkLaws.{rules-state, start-is, start-set-is}

@@ -5,8 +5,8 @@ ghost use Rattle.answers.specs.Input.{input};
 ghost use Rattle.answers.specs.Rules.{All};
 ghost use Rattle.works.specs.Written.{RowWritten};
 use crate::rows::work_rows;
+use entries::copy_row;
 use roots::root_place;
-use steps::copy_row;
 
 // The root's row of column j.
 pub fn row_column(

@@ -6,7 +6,7 @@ ghost use Rattle.answers.specs.CallRules.{tableRules};
 ghost use Rattle.answers.specs.Input.{input};
 ghost use Rattle.answers.specs.Rules.{All};
 ghost use Rattle.works.specs.Written.{Worked};
-use columns::up::fill_rows;
+use columns::fill_rows;
 use trees::nodes::tips_of;
 
 // The rows of column j.

@@ -8,7 +8,7 @@ ghost use Rattle.answers.specs.CallRules.{scoreRules};
 ghost use Rattle.answers.specs.Input.{input, tipsIn, column};
 ghost use Rattle.answers.specs.Rules.{All};
 ghost use Rattle.works.specs.Written.{Worked, ScoresWritten};
-use columns::up::fill_rows;
+use columns::fill_rows;
 use roots::root_least;
 use trees::nodes::tips_of;
 

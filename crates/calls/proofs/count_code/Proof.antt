@@ -8,7 +8,8 @@ use Rattle.answers.specs.Answers.{carriedBy}
 use Rattle.answers.specs.declared.Answer.the-variants.{Refused}
 use Rattle.calls.proofs.CodeLaws.{zero-first, plus-none}
 use Rattle.calls.proofs.count_code.Statement.{statement}
-use Rattle.calls.specs.Codes.{codeOf, countCode}
+use Rattle.codes.specs.Codes.{codeOf}
+use Rattle.calls.specs.Coded.{countCode}
 use Rattle.scorer.specs.Counts.{answerOf, changesOf}
 use Rattle.calls.proofs.count_code.Tie as tie
 

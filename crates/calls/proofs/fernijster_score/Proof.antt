@@ -3,7 +3,7 @@
 use native.Mathlib.Omega.{arith}
 use borrow.Author.Needs.{needs}
 use Rattle.answers.specs.Input.{Input, input}
-use Rattle.calls.proofs.CodeLaws.{carried-small}
+use Rattle.codes.proofs.CodeLaws.{carried-small}
 use Rattle.calls.proofs.fernijster_score.Statement.{statement}
 use Rattle.calls.proofs.fernijster_score.Tie as tie
 

@@ -4,7 +4,8 @@ use native.Mathlib.Omega.{arith}
 use borrow.Author.Needs.{needs}
 use Rattle.answers.specs.Input.{Input, input}
 use Rattle.scorer.specs.Promises.{SetsFound}
-use Rattle.calls.proofs.CodeLaws.{carried-small, promise-from}
+use Rattle.codes.proofs.CodeLaws.{carried-small}
+use Rattle.calls.proofs.CodeLaws.{promise-from}
 use Rattle.calls.proofs.fernijster_sets.Statement.{statement}
 use Rattle.calls.proofs.fernijster_sets.Tie as tie
 

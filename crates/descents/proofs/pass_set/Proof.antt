@@ -10,7 +10,7 @@ use Rattle.descents.proofs.DownSteps.{passed-leaf, passed-inner}
 use Rattle.descents.proofs.LegalLaws.{legal-kids}
 use Rattle.descents.proofs.pass_set.Statement.{statement}
 use Rattle.descents.specs.Down.{settled}
-use Rattle.steps.specs.Lane.{Calm}
+use Rattle.entries.specs.Lane.{Calm}
 use Rattle.descents.proofs.pass_set.Tie as tie
 
 -- in the inner arm: the arguments and what is required of them,

@@ -7,7 +7,7 @@ use lib.ListN.{length}
 use Rattle.parsimony.specs.Least.{least}
 use Rattle.roots.proofs.RootSteps.{root-inside}
 use Rattle.roots.proofs.root_least.Statement.{statement}
-use Rattle.steps.specs.Lane.{entryAt}
+use Rattle.entries.specs.Lane.{entryAt}
 use Rattle.roots.proofs.root_least.Tie as tie
 
 root-place-requires : tie.Need-root-place-requires

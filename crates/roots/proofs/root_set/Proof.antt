@@ -5,7 +5,7 @@ use Prim.Native.Nat.{_<_}
 use borrow.Author.Needs.{needs}
 use Rattle.roots.proofs.root_set.Statement.{statement}
 use Rattle.roots.specs.Starts.{stateOf}
-use Rattle.steps.specs.Lane.{leastSet}
+use Rattle.steps.specs.Ties.{leastSet}
 use Rattle.roots.proofs.root_set.Tie as tie
 
 enum-told : tie.Need-enum-told

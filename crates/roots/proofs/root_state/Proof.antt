@@ -5,7 +5,7 @@ use borrow.Author.Needs.{needs}
 use Rattle.parsimony.specs.Least.{low}
 use Rattle.roots.proofs.root_state.Statement.{statement}
 use Rattle.roots.specs.Starts.{stateOf}
-use Rattle.steps.specs.Lane.{entryAt}
+use Rattle.entries.specs.Lane.{entryAt}
 use Rattle.roots.proofs.root_state.Tie as tie
 
 enum-told : tie.Need-enum-told

@@ -9,7 +9,7 @@ use Rattle.descents.specs.Down.{settled, Descended}
 use Rattle.parsimony.specs.Table.{kidsAt}
 use Rattle.roots.proofs.sets_down.Statement.{statement}
 use Rattle.roots.specs.Starts.{stateOf}
-use Rattle.steps.specs.Lane.{leastSet}
+use Rattle.steps.specs.Ties.{leastSet}
 use Rattle.roots.proofs.sets_down.Tie as tie
 
 root-place-requires : tie.Need-root-place-requires

@@ -12,7 +12,7 @@ use Rattle.parsimony.specs.Table.{kidsAt}
 use Rattle.roots.proofs.RootSteps.{start-small}
 use Rattle.roots.proofs.states_down.Statement.{statement}
 use Rattle.roots.specs.Starts.{stateOf}
-use Rattle.steps.specs.Lane.{entryAt}
+use Rattle.entries.specs.Lane.{entryAt}
 use Rattle.roots.proofs.states_down.Tie as tie
 
 root-place-requires : tie.Need-root-place-requires

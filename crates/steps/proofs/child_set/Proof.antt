@@ -10,10 +10,11 @@ use native.Mathlib.Omega.{arith}
 use borrow.Author.Needs.{needs}
 use Rattle.parsimony.specs.StateSet.{union}
 use Rattle.states.specs.declared.States.{States}
-use Rattle.steps.proofs.LaneLaws.{cheap-row}
+use Rattle.entries.proofs.LaneLaws.{cheap-row}
 use Rattle.steps.proofs.SetSteps.{joined-none, joined-more, joined-other}
 use Rattle.steps.proofs.child_set.Statement.{statement}
-use Rattle.steps.specs.Lane.{Cheap, joined, reached}
+use Rattle.entries.specs.Lane.{Cheap}
+use Rattle.steps.specs.Ties.{joined, reached}
 use Rattle.steps.proofs.child_set.Tie as tie
 
 abbrev Inv-loop : tie.InvT-loop

@@ -6,7 +6,7 @@ use native.Mathlib.Omega.{arith}
 use borrow.Author.Needs.{needs}
 use Rattle.parsimony.proofs.LeastLaws.{low-within, least-low}
 use Rattle.steps.proofs.least_entry.Statement.{statement}
-use Rattle.steps.specs.Lane.{entryAt}
+use Rattle.entries.specs.Lane.{entryAt}
 use Rattle.steps.proofs.least_entry.Tie as tie
 
 lowest-least-requires : tie.Need-lowest-least-requires

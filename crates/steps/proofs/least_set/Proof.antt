@@ -9,7 +9,7 @@ use Rattle.parsimony.specs.StateSet.{union}
 use Rattle.states.specs.declared.States.{States}
 use Rattle.steps.proofs.SetSteps.{least-set-none, least-set-more, least-set-other}
 use Rattle.steps.proofs.least_set.Statement.{statement}
-use Rattle.steps.specs.Lane.{leastSet}
+use Rattle.steps.specs.Ties.{leastSet}
 use Rattle.steps.proofs.least_set.Tie as tie
 
 abbrev Inv-loop : tie.InvT-loop

@@ -6,9 +6,9 @@ use Prim.Native.Nat.{ℕ, _-_, _≤_, _<_}
 use native.Mathlib.Omega.{arith}
 use borrow.Author.Needs.{needs}
 use Rattle.parsimony.specs.Least.{low}
-use Rattle.steps.proofs.LeastSteps.{Looked, looked-one, looked-lower, looked-other}
+use Rattle.entries.proofs.LeastSteps.{Looked, looked-one, looked-lower, looked-other}
 use Rattle.steps.proofs.lowest_least.Statement.{statement}
-use Rattle.steps.specs.Lane.{entryAt}
+use Rattle.entries.specs.Lane.{entryAt}
 use Rattle.steps.proofs.lowest_least.Tie as tie
 
 abbrev Inv-loop : tie.InvT-loop

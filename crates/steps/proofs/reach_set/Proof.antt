@@ -9,7 +9,7 @@ use Rattle.parsimony.specs.StateSet.{union}
 use Rattle.states.specs.declared.States.{States}
 use Rattle.steps.proofs.SetSteps.{reached-none, reached-more, reached-other}
 use Rattle.steps.proofs.reach_set.Statement.{statement}
-use Rattle.steps.specs.Lane.{reached}
+use Rattle.steps.specs.Ties.{reached}
 use Rattle.steps.proofs.reach_set.Tie as tie
 
 abbrev Inv-loop : tie.InvT-loop

@@ -11,8 +11,8 @@ use Rattle.works.proofs.ResultLaws.{row-right}
 use Rattle.works.proofs.RuleParts.{hand-up-parts}
 use Rattle.roots.proofs.RootSteps.{root-inside}
 use Rattle.works.proofs.handing_up.row_column.Statement.{statement}
-use Rattle.steps.specs.Lane.{entryAt}
-use Rattle.steps.specs.Wrote.{Wrote}
+use Rattle.entries.specs.Lane.{entryAt}
+use Rattle.entries.specs.Wrote.{Wrote}
 use Rattle.works.proofs.handing_up.row_column.Tie as tie
 
 -- the table that is given

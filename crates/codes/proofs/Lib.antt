@@ -1,0 +1,3 @@
+-- Laws of the packing of answers.
+-- Assumes nothing.
+pub mod CodeLaws

@@ -1,0 +1,3 @@
+-- Laws of the steps of counting by sets.
+-- Assumes nothing.
+pub mod CountSteps

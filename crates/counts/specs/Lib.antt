@@ -1,0 +1,3 @@
+-- What counting by sets promises, over the definitions of `parsimony`.
+-- Assumes nothing.
+pub mod Prelims

@@ -1,0 +1,6 @@
+-- Laws of rows, and of the loops that fill them.
+-- Assumes nothing.
+pub mod LeastSteps
+pub mod WroteLaws
+pub mod LaneLaws
+pub mod CellLaws
