@@ -1,55 +1,16 @@
 -- The walk from the root down, node by node from the last to the first, for any values that children get: labels, sets.
 -- Assumes nothing.
 use mathlib.Core.List.{List}
-use mathlib.Core.Logic.{inl, inr, ⊎-elim}
 use mathlib.Core.Path.{_≡_, refl, ap, sym, _∙_, subst}
-use Prim.Native.Nat.{ℕ, _-_, _*_, _≤_, _<_}
+use Prim.Native.Nat.{ℕ, _-_, _≤_, _<_}
 use native.Mathlib.Omega.{arith}
 use lib.ListN.{length, getD, set, length-set}
 use lib.Seq.{getD-set-same, getD-set-other}
-use Rattle.parsimony.specs.Allowed.{CostRules}
-use Rattle.parsimony.specs.Table.{Kind, Node, leaf, inner, kidsOf}
 use Rattle.parsimony.specs.Tree.{Kids, Has, Rooted}
-use Rattle.parsimony.proofs.LeastLaws.{low-within}
 use Rattle.parsimony.proofs.Order.{by-eq, by-lt}
 use Rattle.parsimony.proofs.TreeLaws.{parent-unique, parent-has}
-use Rattle.descents.specs.Down.{chosen, Passed, Descended}
-use Rattle.entries.specs.Lane.{lane}
-
--- a chosen state is a state
-pub chosen-low : {s : ℕ} {costs : List ℕ} → CostRules s costs → (rows : List ℕ) (u x : ℕ) → chosen s costs rows u x < s
-unfolding chosen
-chosen-low {s} {costs} rules rows u x =
-    let few = rules .fewest in
-    low-within (lane costs (x * s) rows (u * s)) s (omega arith)
-
--- a tip leaves the list as it is
-pub passed-leaf : {node : Node} {give : ℕ → ℕ → ℕ} {x r : ℕ} {l : List ℕ} (k : Kind) → leaf k r ≡ node
-    → Passed (kidsOf node) give x l l
-passed-leaf {give = give} {x} {l = l} k e =
-    subst (λ node. Passed (kidsOf node) give x l l) e
-    (record { long = refl; child = λ h. absurd h; other = λ i h. refl })
-
--- an inner node stores both children's values
-pub passed-inner : {node : Node} (give : ℕ → ℕ → ℕ) (a b x y z : ℕ) (l : List ℕ) → inner a b ≡ node
-    → a < length l → b < length l → y ≡ give a x → z ≡ give b x → Passed (kidsOf node) give x l (set (set l a y) b z)
-passed-inner give a b x y z l e ha hb ey ez =
-    subst (λ node. Passed (kidsOf node) give x l (set (set l a y) b z)) e
-    (record {
-      long = length-set (set l a y) b z ∙ length-set l a y;
-      child = λ {u} h. by-eq u b (at-b u) (λ ne. ⊎-elim (at-a u ne) (λ e. absurd (ne e)) h);
-      other = λ i h. getD-set-other (set l a y) b i z 0 (λ e. h (inr e)) ∙ getD-set-other l a i y 0 (λ e. h (inl e));
-    })
-  where
-    at-b : (u : ℕ) → u ≡ b → getD (set (set l a y) b z) u 0 ≡ give u x
-    at-b u e =
-        subst (λ k. getD (set (set l a y) b z) k 0 ≡ give k x) (sym e)
-        (getD-set-same (set l a y) b z 0 (simp length-set hb) ∙ ez)
-
-    at-a : (u : ℕ) → (u ≡ b → ⊥) → u ≡ a → getD (set (set l a y) b z) u 0 ≡ give u x
-    at-a u ne e =
-        getD-set-other (set l a y) b u z 0 ne
-        ∙ subst (λ k. getD (set l a y) k 0 ≡ give k x) (sym e) (getD-set-same l a y 0 ha ∙ ey)
+use Rattle.descents.specs.Down.{Descended}
+use Rattle.passes.specs.Passed.{Passed}
 
 -- The walk over n nodes, from node n - 1 to node v, in a list in which the root had its start: the root still has it,
 -- the children of each node from v on have their values, and nothing past the nodes was written.

@@ -1,4 +1,3 @@
--- Laws of the work from the root down: legal tables, and the steps of the loops.
+-- Laws of the walk from the root down.
 -- Assumes nothing.
-pub mod LegalLaws
 pub mod DownSteps

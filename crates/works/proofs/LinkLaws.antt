@@ -21,7 +21,7 @@ use Rattle.answers.specs.CallRules.{tableRules}
 use Rattle.answers.specs.Input.{Input, nodes, column}
 use Rattle.answers.specs.Rules.{All}
 use Rattle.answers.proofs.RootLaws.{rules-legal, rules-node}
-use Rattle.descents.specs.Down.{chosen, settled}
+use Rattle.passes.specs.Passed.{chosen, settled}
 use Rattle.columns.specs.Ready.{Ready}
 use Rattle.columns.proofs.RowSteps.{ready-calm}
 use Rattle.columns.specs.RowRoom.{Holds}

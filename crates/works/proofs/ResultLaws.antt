@@ -30,7 +30,7 @@ use Rattle.answers.specs.CallRules.{tableRules}
 use Rattle.answers.specs.Input.{Input, nodes, column}
 use Rattle.answers.specs.Rules.{All}
 use Rattle.answers.proofs.RootLaws.{rules-node, rules-sound}
-use Rattle.descents.specs.Down.{chosen, settled}
+use Rattle.passes.specs.Passed.{chosen, settled}
 use Rattle.columns.specs.RowRoom.{Holds}
 use Rattle.entries.specs.Lane.{entryAt}
 use Rattle.entries.specs.Wrote.{Wrote}

@@ -17,7 +17,7 @@ use Rattle.answers.specs.Starts.{StateStart, SetStart}
 use Rattle.answers.specs.declared.Start.{Start}
 use Rattle.answers.specs.declared.Start.the-variants.{Free, Given}
 use Rattle.answers.proofs.RootLaws.{rules-sound}
-use Rattle.descents.specs.Down.{chosen, settled}
+use Rattle.passes.specs.Passed.{chosen, settled}
 use Rattle.columns.specs.RowRoom.{Holds}
 use Rattle.entries.specs.Lane.{entryAt}
 use Rattle.steps.specs.Ties.{leastSet}

@@ -12,9 +12,9 @@ use Rattle.descents.proofs.DownSteps.{
   descending-done,
   descending-step,
 }
-use Rattle.descents.proofs.LegalLaws.{legal-some, legal-rooted}
+use Rattle.passes.proofs.LegalLaws.{legal-some, legal-rooted}
 use Rattle.descents.proofs.fill_sets.Statement.{statement}
-use Rattle.descents.specs.Down.{settled}
+use Rattle.passes.specs.Passed.{settled}
 use Rattle.descents.proofs.fill_sets.Tie as tie
 
 abbrev Inv-loop : tie.InvT-loop

@@ -7,16 +7,16 @@ use borrow.Author.Needs.{needs}
 use lib.ListN.{length, length-set}
 use Rattle.parsimony.specs.Table.{kidsAt}
 use Rattle.descents.proofs.DownSteps.{
-  chosen-low,
   Descending,
   descending-start,
   descending-done,
   descending-step,
   descending-low,
 }
-use Rattle.descents.proofs.LegalLaws.{legal-some, legal-rooted}
+use Rattle.passes.proofs.LegalLaws.{legal-some, legal-rooted}
+use Rattle.passes.proofs.PassSteps.{chosen-low}
 use Rattle.descents.proofs.fill_states.Statement.{statement}
-use Rattle.descents.specs.Down.{chosen}
+use Rattle.passes.specs.Passed.{chosen}
 use Rattle.descents.proofs.fill_states.Tie as tie
 
 abbrev Inv-loop : tie.InvT-loop

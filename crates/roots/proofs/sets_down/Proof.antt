@@ -5,7 +5,8 @@ use Prim.Native.Nat.{_-_}
 use native.Mathlib.Omega.{arith}
 use borrow.Author.Needs.{needs}
 use lib.ListN.{length}
-use Rattle.descents.specs.Down.{settled, Descended}
+use Rattle.descents.specs.Down.{Descended}
+use Rattle.passes.specs.Passed.{settled}
 use Rattle.parsimony.specs.Table.{kidsAt}
 use Rattle.roots.proofs.sets_down.Statement.{statement}
 use Rattle.roots.specs.Starts.{stateOf}

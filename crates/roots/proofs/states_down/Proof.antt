@@ -5,7 +5,8 @@ use Prim.Native.Nat.{_-_}
 use native.Mathlib.Omega.{arith}
 use borrow.Author.Needs.{needs}
 use lib.ListN.{length}
-use Rattle.descents.specs.Down.{chosen, Descended}
+use Rattle.descents.specs.Down.{Descended}
+use Rattle.passes.specs.Passed.{chosen}
 use Rattle.parsimony.proofs.LeastLaws.{low-within}
 use Rattle.parsimony.specs.Least.{low}
 use Rattle.parsimony.specs.Table.{kidsAt}

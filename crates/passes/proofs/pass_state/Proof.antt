@@ -6,10 +6,10 @@ use native.Mathlib.Omega.{arith}
 use borrow.Author.Needs.{needs}
 use lib.ListN.{length, length-set}
 use Rattle.parsimony.specs.Table.{symbol, handed, inner, nodeAt}
-use Rattle.descents.proofs.DownSteps.{passed-leaf, passed-inner}
-use Rattle.descents.proofs.LegalLaws.{legal-kids}
-use Rattle.descents.proofs.pass_state.Statement.{statement}
-use Rattle.descents.proofs.pass_state.Tie as tie
+use Rattle.passes.proofs.PassSteps.{passed-leaf, passed-inner}
+use Rattle.passes.proofs.LegalLaws.{legal-kids}
+use Rattle.passes.proofs.pass_state.Statement.{statement}
+use Rattle.passes.proofs.pass_state.Tie as tie
 
 -- in the inner arm: the arguments and what is required of them,
 abbrev entry : tie.After-known-told → tie.Start

@@ -2,11 +2,11 @@
 use mathlib.Core.Path.{_∙_}
 use native.Mathlib.Omega.{arith}
 use borrow.Author.Needs.{needs}
-use Rattle.descents.proofs.DownSteps.{chosen-low}
-use Rattle.descents.proofs.LegalLaws.{rules-cheap}
-use Rattle.descents.proofs.child_state.Statement.{statement}
-use Rattle.descents.specs.Down.{chosen}
-use Rattle.descents.proofs.child_state.Tie as tie
+use Rattle.passes.proofs.PassSteps.{chosen-low}
+use Rattle.passes.proofs.LegalLaws.{rules-cheap}
+use Rattle.passes.proofs.child_state.Statement.{statement}
+use Rattle.passes.specs.Passed.{chosen}
+use Rattle.passes.proofs.child_state.Tie as tie
 
 mul-choose : tie.Need-mul-choose
 mul-choose c =

@@ -1,0 +1,3 @@
+-- What a node passes on to its children, over the steps.
+-- Assumes nothing.
+pub mod Passed
