@@ -6,9 +6,10 @@ use Prim.Native.Nat.{ℕ, zero, suc, _+_}
 use Prim.Native.String.{String}
 use lib.ListN.{length}
 use Rattle.lines.specs.Bytes.{bytes}
-use Rattle.newick.specs.Nodes.{lefts, rights}
-use Rattle.newick.specs.Parse.{Parsed, got, noTree, lineTree}
-use Rattle.newick.specs.Vine.{Vine, tip, pair, deep}
+use Rattle.tips.specs.Nodes.{lefts, rights}
+use Rattle.tips.specs.Tip.{Parsed, got, noTree}
+use Rattle.tips.specs.Vine.{Vine, tip, pair, deep}
+use Rattle.newick.specs.Parse.{lineTree}
 
 -- the tree that a text denotes, over the names a, b and ab, which stand at places 0, 2 and 4
 abbrev Read : Type 0

@@ -8,7 +8,7 @@ use Rattle.parsimony.specs.Test.{at}
 use Rattle.parsimony.specs.Tree.{each}
 use Rattle.parsimony.proofs.NodeLaws.{leaf-inner}
 use Rattle.parsimony.proofs.Order.{by-lt, by-eq, at-same, at-other}
-use Rattle.newick.specs.Vine.{Vine, tip, pair, size}
+use Rattle.tips.specs.Vine.{Vine, tip, pair, size}
 use Rattle.newick.proofs.PairSteps.{size-some}
 use Rattle.newick.proofs.SpanLaws.{size-tip, size-pair, over, over-pair, over-one}
 

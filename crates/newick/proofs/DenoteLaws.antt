@@ -17,16 +17,17 @@ use Rattle.lines.specs.Bytes.{textOf, every}
 use Rattle.lines.specs.declared.Place.the-variants.{At}
 use Rattle.lines.proofs.ByteLaws.{both-true, text-on}
 use Rattle.names.specs.Name.{isNameByte}
+use Rattle.tips.specs.Marks.{isMarked, marked, IsMarks}
+use Rattle.tips.specs.Tip.{Parsed, got, tipOf}
+use Rattle.tips.specs.Token.{tokenEnd, rowOf}
+use Rattle.tips.specs.Vine.{Vine, tip, pair, occurs, greater, deep}
+use Rattle.tips.proofs.TipSteps.{tip-new}
 use Rattle.newick.specs.Denotes.{IsName, Denotes, Different}
-use Rattle.newick.specs.Marks.{isMarked, marked, IsMarks}
-use Rattle.newick.specs.Parse.{Parsed, got, tipOf, pairBy, pairOf, treeOf}
-use Rattle.newick.specs.Token.{tokenEnd, rowOf}
-use Rattle.newick.specs.Vine.{Vine, tip, pair, occurs, greater, deep}
+use Rattle.newick.specs.Parse.{pairBy, pairOf, treeOf}
 use Rattle.newick.proofs.NameLaws.{name-read, name-reads}
 use Rattle.newick.proofs.OnceLaws.{tree-of-once}
 use Rattle.newick.proofs.PairSteps.{tree-pair, tree-name, pair-whole}
 use Rattle.newick.proofs.SizeLaws.{none-got, tip-from, pair-from, tree-from}
-use Rattle.newick.proofs.TreeSteps.{tip-new}
 
 -- the depth of a pair, and of its trees
 deep-pair : (a b : Vine) (d : ℕ) → deep (pair a b) ≤ suc d → (deep a ≤ d) × (deep b ≤ d)

@@ -8,8 +8,8 @@ use lib.ListN.{length, getD, List·getD-append}
 use lib.Seq.{getD-append-add}
 use Rattle.parsimony.specs.Table.{nodeAt}
 use Rattle.parsimony.proofs.NodeLaws.{node-symbol, node-inner}
-use Rattle.newick.specs.Nodes.{lefts, rights}
-use Rattle.newick.specs.Vine.{Vine, tip, pair, size}
+use Rattle.tips.specs.Nodes.{lefts, rights}
+use Rattle.tips.specs.Vine.{Vine, tip, pair, size}
 use Rattle.newick.proofs.ChildLaws.{Stood}
 use Rattle.newick.proofs.PairSteps.{size-some, lefts-long, rights-long}
 use Rattle.newick.proofs.SpanLaws.{size-tip, size-pair}

@@ -11,11 +11,13 @@ use lib.Dec.{eqb}
 use lib.ListN.{length, getD}
 use Rattle.parsimony.specs.Test.{pick, both}
 use Rattle.parsimony.proofs.Order.{pick-true, pick-false}
-use Rattle.newick.specs.Marks.{unmarked}
-use Rattle.newick.specs.Parse.{Parsed, got, noTree, onParsed, onByte, treeOf, lineTree}
-use Rattle.newick.specs.Reading.{Ready, Got, GotLine}
-use Rattle.newick.specs.Vine.{Vine, size}
-use Rattle.newick.proofs.MarkLaws.{unmarked-met, unmarked-marks, met-few}
+use Rattle.tips.specs.Marks.{unmarked}
+use Rattle.tips.specs.Tip.{Parsed, got, noTree}
+use Rattle.tips.specs.Reading.{Ready, Got}
+use Rattle.tips.specs.Vine.{Vine, size}
+use Rattle.tips.proofs.MarkLaws.{unmarked-met, unmarked-marks, met-few}
+use Rattle.newick.specs.Parse.{onParsed, onByte, treeOf, lineTree}
+use Rattle.newick.specs.Reading.{GotLine}
 use Rattle.newick.proofs.SizeLaws.{tree-of-sized}
 
 -- at first no node is made and no name met

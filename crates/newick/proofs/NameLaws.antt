@@ -18,9 +18,8 @@ use Rattle.lines.specs.declared.Place.{Place}
 use Rattle.lines.specs.declared.Place.the-variants.{At, Nowhere}
 use Rattle.lines.proofs.ByteLaws.{both-true, text-on, text-end, every-on}
 use Rattle.names.specs.Name.{isNameByte}
-use Rattle.newick.specs.Denotes.{IsName, Different}
-use Rattle.newick.specs.Token.{tokenEnd, isLineOf, rowOf}
-use Rattle.newick.proofs.TokenLaws.{
+use Rattle.tips.specs.Token.{tokenEnd, isLineOf, rowOf}
+use Rattle.tips.proofs.TokenLaws.{
   token-more,
   token-stop,
   token-end,
@@ -34,6 +33,7 @@ use Rattle.newick.proofs.TokenLaws.{
   nowhere-at,
   at-same,
 }
+use Rattle.newick.specs.Denotes.{IsName, Different}
 
 -- where a word is found, the bytes begin with it
 word-begins : (word bytes : List ℕ) (i stop : ℕ) → wordIn word bytes i ≡ At stop

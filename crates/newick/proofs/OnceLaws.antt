@@ -16,11 +16,14 @@ use Rattle.parsimony.specs.Test.{at, pick, both}
 use Rattle.parsimony.proofs.Order.{by-eq, pick-true, pick-false, at-same, at-other}
 use Rattle.parsimony.proofs.Sums.{sum-add, sum-at, sum-tight}
 use Rattle.parsimony.proofs.TipLaws.{sum-ones}
-use Rattle.newick.specs.Marks.{unmarked, marked, IsMarks}
-use Rattle.newick.specs.Parse.{Parsed, got, noTree, tipOf, pairBy, treeBy, pairOf, treeOf, lineTree}
-use Rattle.newick.specs.Token.{tokenEnd}
-use Rattle.newick.specs.Vine.{Vine, tip, pair, size, occurs}
-use Rattle.newick.proofs.MarkLaws.{unmarked-marks, open-mark}
+use Rattle.tips.specs.Marks.{unmarked, marked, IsMarks}
+use Rattle.tips.specs.Tip.{Parsed, got, noTree, tipOf}
+use Rattle.tips.specs.Token.{tokenEnd}
+use Rattle.tips.specs.Vine.{Vine, tip, pair, size, occurs}
+use Rattle.tips.specs.Nodes.{lefts, rights}
+use Rattle.tips.proofs.MarkLaws.{unmarked-marks, open-mark}
+use Rattle.tips.proofs.TokenLaws.{row-below}
+use Rattle.newick.specs.Parse.{pairBy, treeBy, pairOf, treeOf, lineTree}
 use Rattle.newick.proofs.SizeLaws.{
   none-got,
   got-same,
@@ -34,10 +37,8 @@ use Rattle.newick.proofs.SizeLaws.{
 use Rattle.newick.proofs.SpanLaws.{size-tip, size-pair}
 use Rattle.newick.proofs.EntryLaws.{Rows}
 use Rattle.newick.proofs.TableLaws.{vine-legal, vine-tips, vine-handed}
-use Rattle.newick.specs.Nodes.{lefts, rights}
 use Rattle.parsimony.specs.Table.{symbol, handed, nodeAt, tips, Legal}
 use Rattle.lines.proofs.ByteLaws.{both-true}
-use Rattle.newick.proofs.TokenLaws.{row-below}
 
 -- each name of the tree is one of the t, was not marked, and is marked now; all other marks are as before
 pub record Once (t : ℕ) (marks : List ℕ) (vine : Vine) (marks' : List ℕ) : Type 0 where

@@ -11,13 +11,14 @@ use lib.Dec.{eqb}
 use lib.ListN.{length, getD, set, length-append, List·getD-eq-default}
 use lib.Seq.{sets, length-sets}
 use Rattle.parsimony.proofs.Order.{by-lt, pick-true, pick-false}
-use Rattle.newick.specs.Nodes.{lefts, rights}
-use Rattle.newick.specs.Parse.{Parsed, got, noTree, onParsed, onByte, tipOf, pairBy, treeBy, pairOf, treeOf}
-use Rattle.newick.specs.Reading.{Ready, Got, GivesFor, Gives}
-use Rattle.newick.specs.Vine.{Vine, tip, pair, size}
-use Rattle.newick.specs.declared.Subtree.{Subtree}
-use Rattle.newick.specs.declared.Subtree.the-variants.{Tree, NoTree}
-use Rattle.newick.proofs.MarkLaws.{met-few}
+use Rattle.tips.specs.Nodes.{lefts, rights}
+use Rattle.tips.specs.Tip.{Parsed, got, noTree, tipOf}
+use Rattle.tips.specs.Reading.{Ready, Got, GivesFor, Gives}
+use Rattle.tips.specs.Vine.{Vine, tip, pair, size}
+use Rattle.tips.specs.declared.Subtree.{Subtree}
+use Rattle.tips.specs.declared.Subtree.the-variants.{Tree, NoTree}
+use Rattle.tips.proofs.MarkLaws.{met-few}
+use Rattle.newick.specs.Parse.{onParsed, onByte, pairBy, treeBy, pairOf, treeOf}
 use Rattle.newick.proofs.SizeLaws.{tree-of-sized}
 
 -- a byte that is met stands in the sheet

@@ -21,7 +21,7 @@ use Rattle.parsimony.specs.Table.{
 }
 use Rattle.parsimony.specs.Test.{at}
 use Rattle.parsimony.specs.Tree.{Has, each, uses}
-use Rattle.newick.specs.Vine.{Vine, size, occurs}
+use Rattle.tips.specs.Vine.{Vine, size, occurs}
 use Rattle.newick.proofs.ChildLaws.{Stood, stood-used, stood-inner}
 use Rattle.newick.proofs.SpanLaws.{over-zero}
 use Rattle.newick.proofs.TipLaws.{stood-rows, stood-tips, stood-handed}

@@ -15,12 +15,13 @@ use Rattle.parsimony.proofs.Order.{pick-true, pick-false}
 use Rattle.lines.specs.Count.{onPlace}
 use Rattle.lines.specs.declared.Place.{Place}
 use Rattle.lines.specs.declared.Place.the-variants.{At, Nowhere}
-use Rattle.newick.specs.Marks.{isMarked, marked, met, IsMarks}
-use Rattle.newick.specs.Parse.{Parsed, got, noTree, onParsed, onByte, tipOf, pairBy, treeBy, pairOf, treeOf}
-use Rattle.newick.specs.Token.{tokenEnd, rowOf}
-use Rattle.newick.specs.Vine.{Vine, tip, pair, size}
-use Rattle.newick.proofs.MarkLaws.{met-mark, marks-mark}
-use Rattle.newick.proofs.TokenLaws.{row-below}
+use Rattle.tips.specs.Marks.{isMarked, marked, met, IsMarks}
+use Rattle.tips.specs.Tip.{Parsed, got, noTree, tipOf}
+use Rattle.tips.specs.Token.{tokenEnd, rowOf}
+use Rattle.tips.specs.Vine.{Vine, tip, pair, size}
+use Rattle.tips.proofs.MarkLaws.{met-mark, marks-mark}
+use Rattle.tips.proofs.TokenLaws.{row-below}
+use Rattle.newick.specs.Parse.{onParsed, onByte, pairBy, treeBy, pairOf, treeOf}
 
 pub none-got : {v : Vine} {e : ℕ} {m : List ℕ} → noTree ≡ got v e m → ⊥
 none-got h = let z : _≡_ {A = ℕ} 0 1 = cc in omega arith

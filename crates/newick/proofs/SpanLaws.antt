@@ -5,7 +5,7 @@ use Prim.Native.Nat.{ℕ, zero, suc, _+_}
 use native.Mathlib.Omega.{arith}
 use Rattle.parsimony.specs.Sum.{sum}
 use Rattle.parsimony.proofs.Sums.{sum-zero, sum-suc, sum-same}
-use Rattle.newick.specs.Vine.{Vine, tip, pair, size}
+use Rattle.tips.specs.Vine.{Vine, tip, pair, size}
 
 pub size-tip : (r : ℕ) → size (tip r) ≡ 1
 unfolding size

@@ -7,8 +7,8 @@ use native.Mathlib.Omega.{arith}
 use lib.ListN.{length, getD}
 use Rattle.parsimony.specs.Sum.{sum}
 use Rattle.parsimony.specs.Table.{Kind, symbol, handed, nodeAt, isTip, tips, TreeRules, Legal}
-use Rattle.newick.specs.Nodes.{lefts, rights}
-use Rattle.newick.specs.Vine.{Vine, size, occurs}
+use Rattle.tips.specs.Nodes.{lefts, rights}
+use Rattle.tips.specs.Vine.{Vine, size, occurs}
 use Rattle.newick.proofs.ChildLaws.{Stood}
 use Rattle.newick.proofs.EntryLaws.{Rows, stood-lists}
 use Rattle.newick.proofs.PairSteps.{lefts-long, rights-long}

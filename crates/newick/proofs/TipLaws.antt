@@ -4,7 +4,7 @@ use mathlib.Core.Path.{_≡_, ap, _∙_}
 use Prim.Native.Nat.{ℕ, _+_, _*_}
 use native.Mathlib.Omega.{arith}
 use Rattle.parsimony.specs.Table.{symbol, handed, Node, isTip, names}
-use Rattle.newick.specs.Vine.{Vine, tip, pair, size, occurs}
+use Rattle.tips.specs.Vine.{Vine, tip, pair, size, occurs}
 use Rattle.newick.proofs.ChildLaws.{Stood}
 use Rattle.newick.proofs.SpanLaws.{size-tip, size-pair, over, over-pair, over-one}
 

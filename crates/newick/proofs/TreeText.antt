@@ -14,14 +14,15 @@ use Rattle.parsimony.proofs.Order.{by-lt, pick-true, at-other}
 use Rattle.parsimony.proofs.Sums.{sum-same}
 use Rattle.parsimony.proofs.TipLaws.{sum-ones}
 use Rattle.names.specs.Name.{isNameByte}
+use Rattle.tips.specs.Marks.{unmarked}
+use Rattle.tips.specs.Tip.{got, noTree}
+use Rattle.tips.specs.Vine.{Vine, tip, pair, size, occurs}
+use Rattle.tips.proofs.MarkLaws.{unmarked-marks, unmarked-row}
 use Rattle.newick.specs.Denotes.{Denotes, Different}
-use Rattle.newick.specs.Marks.{unmarked}
-use Rattle.newick.specs.Parse.{got, noTree, onParsed, onByte, lineTree}
+use Rattle.newick.specs.Parse.{onParsed, onByte, lineTree}
 use Rattle.newick.specs.TreeLine.{IsTreeLine}
-use Rattle.newick.specs.Vine.{Vine, tip, pair, size, occurs}
 use Rattle.newick.proofs.DenoteLaws.{tree-says, denotes-unique, denotes-read, end-byte}
 use Rattle.newick.proofs.EntryLaws.{Rows}
-use Rattle.newick.proofs.MarkLaws.{unmarked-marks, unmarked-row}
 use Rattle.newick.proofs.OnceLaws.{line-from, line-once, rows-count}
 use Rattle.newick.proofs.SizeLaws.{none-got}
 

@@ -8,7 +8,7 @@ use Prim.Native.Nat.{ℕ, _+_, _<_, _≤_}
 use lib.ListN.{length, getD, drop}
 use Rattle.lines.specs.Bytes.{textOf, every}
 use Rattle.names.specs.Name.{isNameByte}
-use Rattle.newick.specs.Vine.{Vine, tip, pair}
+use Rattle.tips.specs.Vine.{Vine, tip, pair}
 
 -- the line at a place is the text, and the text has only bytes that may stand in a name
 pub record NameAt (sheet : List ℕ) (place : ℕ) (text : List ℕ) : Type 0 where

@@ -6,15 +6,9 @@ use Prim.Native.Nat.{ℕ, zero, suc, _+_, _*_}
 use lib.Dec.{eqb}
 use lib.ListN.{getD}
 use Rattle.parsimony.specs.Test.{pick, both}
-use Rattle.lines.specs.Count.{onPlace}
-use Rattle.newick.specs.Marks.{isMarked, marked, unmarked}
-use Rattle.newick.specs.Token.{tokenEnd, rowOf}
-use Rattle.newick.specs.Vine.{Vine, tip, pair, size}
-
--- what the text from a place on gives: a tree, the place after it and the names met so far, or no tree
-pub data Parsed : Type 0 where
-  got : Vine → ℕ → List ℕ → Parsed
-  noTree : Parsed
+use Rattle.tips.specs.Marks.{unmarked}
+use Rattle.tips.specs.Tip.{Parsed, got, noTree, tipOf}
+use Rattle.tips.specs.Vine.{Vine, pair, size}
 
 -- what follows from a tree; no tree otherwise
 unfoldable pub onParsed : Parsed → (Vine → ℕ → List ℕ → Parsed) → Parsed
@@ -27,14 +21,6 @@ unfolding pick
 onByte sheet byte i go = pick (eqb (getD sheet i 0) byte) go noTree
 
 module _ (sheet names : List ℕ) (t : ℕ) where
-  -- a name: one of the sheet's that has not been met yet
-  unfoldable pub tipOf : List ℕ → ℕ → Parsed
-  unfolding onPlace rowOf pick isMarked marked tokenEnd
-  tipOf marks i =
-      pick (eqb (tokenEnd sheet i) i) noTree
-      (onPlace (rowOf sheet names t i (tokenEnd sheet i)) noTree
-      (λ r. pick (isMarked marks r) noTree (got (tip r) (tokenEnd sheet i) (marked marks r))))
-
   -- a bracketed pair, its trees read by sub
   unfoldable pub pairBy : (List ℕ → ℕ → Parsed) → List ℕ → ℕ → Parsed
   unfolding onParsed onByte
@@ -46,7 +32,7 @@ module _ (sheet names : List ℕ) (t : ℕ) where
   -- a tree: a pair where it starts with a bracket, else a name
   unfoldable pub treeBy : (List ℕ → ℕ → Parsed) → List ℕ → ℕ → Parsed
   unfolding pick tipOf
-  treeBy pairAt marks i = pick (eqb (getD sheet i 0) (code "(")) (pairAt marks i) (tipOf marks i)
+  treeBy pairAt marks i = pick (eqb (getD sheet i 0) (code "(")) (pairAt marks i) (tipOf sheet names t marks i)
 
   -- a pair, and a tree, whose brackets nest at most so deep
   unfoldable pub pairOf : ℕ → List ℕ → ℕ → Parsed

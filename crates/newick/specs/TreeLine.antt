@@ -5,8 +5,8 @@ use mathlib.Core.Path.{_≡_}
 use Prim.Native.Char.{code}
 use Prim.Native.Nat.{ℕ, _+_, _<_, _≤_}
 use lib.ListN.{getD}
+use Rattle.tips.specs.Vine.{Vine, occurs, deep}
 use Rattle.newick.specs.Denotes.{Denotes}
-use Rattle.newick.specs.Vine.{Vine, occurs, deep}
 
 -- The line from a place up to its end is the text of a tree: it denotes the tree and ends in `;`, brackets nest at
 -- most 128

@@ -5,7 +5,7 @@ use mathlib.Core.Path.{_≡_, refl}
 use Prim.Native.Nat.{ℕ}
 use Prim.Native.String.{String}
 use Rattle.lines.specs.Bytes.{bytes}
-use Rattle.newick.specs.Nodes.{lefts, rights}
+use Rattle.tips.specs.Nodes.{lefts, rights}
 use Rattle.sheet.specs.Judge.{judge}
 use Rattle.sheet.specs.Table.{flat, cellsOf}
 use Rattle.printer.specs.Report.{reportOf}

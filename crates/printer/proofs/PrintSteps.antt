@@ -11,8 +11,8 @@ use Rattle.answers.specs.CallRules.{tableRules}
 use Rattle.answers.specs.Input.{Input, input, nodes}
 use Rattle.answers.specs.Rules.{All}
 use Rattle.cells.specs.IsRow.{rowAt}
-use Rattle.newick.specs.Nodes.{lefts, rights}
-use Rattle.newick.specs.Vine.{size}
+use Rattle.tips.specs.Nodes.{lefts, rights}
+use Rattle.tips.specs.Vine.{size}
 use Rattle.newick.proofs.PairSteps.{lefts-long}
 use Rattle.printer.specs.SheetLine.{lineIn, scoreIn, Printed, Ready, PrintedOf}
 use Rattle.reports.specs.Reports.{Reported}

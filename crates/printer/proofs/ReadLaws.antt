@@ -8,8 +8,8 @@ use lib.ListN.{length, getD, take, drop}
 use lib.Seq.{sets, sets-eq, length-sets, take-append-seam, ext-getD}
 use Rattle.costs.specs.CostRules.{TableRules, Flat}
 use Rattle.lines.specs.declared.Fault.{Fault}
-use Rattle.newick.specs.Nodes.{lefts, rights}
-use Rattle.newick.specs.Vine.{size}
+use Rattle.tips.specs.Nodes.{lefts, rights}
+use Rattle.tips.specs.Vine.{size}
 use Rattle.newick.proofs.PairSteps.{lefts-long, rights-long}
 use Rattle.printer.specs.Page.{ReadyFrom}
 use Rattle.printer.specs.SheetLine.{IsRead, Ready}

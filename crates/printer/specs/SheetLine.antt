@@ -7,8 +7,8 @@ use lib.ListN.{length, take}
 use Rattle.parsimony.specs.Row.{score}
 use Rattle.answers.specs.Input.{column}
 use Rattle.lines.specs.declared.Fault.{Fault}
-use Rattle.newick.specs.Nodes.{lefts, rights}
-use Rattle.newick.specs.Vine.{size}
+use Rattle.tips.specs.Nodes.{lefts, rights}
+use Rattle.tips.specs.Vine.{size}
 use Rattle.reports.specs.Line.{lineOf}
 use Rattle.reports.specs.Reports.{Starts}
 use Rattle.sheet.specs.Judge.{Contents, Judged, sound, faulty, judge}

@@ -6,7 +6,7 @@ use Prim.Native.String.{String}
 use Rattle.costs.specs.Costs.{unitTable}
 use Rattle.lines.specs.Bytes.{bytes}
 use Rattle.lines.specs.declared.Fault.the-variants.{Sheet, Symbol, TreeText}
-use Rattle.newick.specs.Vine.{tip, pair}
+use Rattle.tips.specs.Vine.{tip, pair}
 use Rattle.sheet.specs.Judge.{Judged, sound, faulty, judge}
 use Rattle.sheet.specs.Table.{cellsOf}
 

@@ -16,11 +16,12 @@ use Rattle.lines.specs.Section.{wrote}
 use Rattle.lines.specs.declared.Fault.{Fault}
 use Rattle.lines.specs.declared.Fault.the-variants.{Sheet, TreeText}
 use Rattle.lines.specs.declared.Place.the-variants.{At, Nowhere}
-use Rattle.newick.specs.Parse.{Parsed, noTree, lineTree}
+use Rattle.tips.specs.Tip.{Parsed, noTree}
+use Rattle.tips.specs.Vine.{Vine, size}
+use Rattle.tips.specs.declared.Subtree.{Subtree}
+use Rattle.tips.specs.declared.Subtree.the-variants.{Tree, NoTree}
+use Rattle.newick.specs.Parse.{lineTree}
 use Rattle.newick.specs.Reading.{GotLine, GivesLineFor, GivesLine}
-use Rattle.newick.specs.Vine.{Vine, size}
-use Rattle.newick.specs.declared.Subtree.{Subtree}
-use Rattle.newick.specs.declared.Subtree.the-variants.{Tree, NoTree}
 use Rattle.sections.specs.Sheet.{GivesSheet, sheetOf}
 use Rattle.sections.specs.declared.Reading.{Reading}
 use Rattle.sections.specs.declared.Reading.the-variants.{Sound, Faulty}

@@ -17,8 +17,9 @@ use Rattle.lines.specs.Line.{lineOf}
 use Rattle.lines.specs.declared.Fault.the-variants.{Sheet, TreeText}
 use Rattle.lines.specs.declared.Place.{Place}
 use Rattle.lines.specs.declared.Place.the-variants.{At, Nowhere}
-use Rattle.newick.specs.Parse.{Parsed, got, noTree, lineTree}
-use Rattle.newick.specs.Vine.{Vine}
+use Rattle.tips.specs.Tip.{Parsed, got, noTree}
+use Rattle.tips.specs.Vine.{Vine}
+use Rattle.newick.specs.Parse.{lineTree}
 use Rattle.sections.specs.Sheet.{sheetOf}
 use Rattle.sections.specs.declared.Reading.{Reading}
 use Rattle.sections.specs.declared.Reading.the-variants.{Sound, Faulty}

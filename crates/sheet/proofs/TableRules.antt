@@ -16,7 +16,7 @@ use Rattle.answers.specs.Rules.{All}
 use Rattle.cells.specs.IsRow.{rowAt}
 use Rattle.costs.specs.CostRules.{TableRules, Flat}
 use Rattle.costs.proofs.FlatLaws.{flat-rules}
-use Rattle.newick.specs.Nodes.{lefts, rights}
+use Rattle.tips.specs.Nodes.{lefts, rights}
 use Rattle.newick.proofs.OnceLaws.{line-legal, line-tips, line-handed}
 use Rattle.sections.specs.Sheet.{sheetOf}
 use Rattle.sections.specs.SheetRead.{SheetRead}

@@ -4,8 +4,8 @@ use mathlib.Core.List.{List}
 use mathlib.Core.Path.{_≡_}
 use Prim.Native.Nat.{ℕ}
 use lib.Seq.{sets}
-use Rattle.newick.specs.Nodes.{lefts, rights}
-use Rattle.newick.specs.Vine.{size}
+use Rattle.tips.specs.Nodes.{lefts, rights}
+use Rattle.tips.specs.Vine.{size}
 use Rattle.sections.specs.declared.Sections.{Sections}
 use Rattle.sheet.specs.Judge.{Contents, Judged, sound, faulty, treeLine}
 use Rattle.sheet.specs.declared.Read.{Read}

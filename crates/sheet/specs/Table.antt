@@ -6,7 +6,7 @@ use lib.ListN.{getD}
 use Rattle.parsimony.specs.Filled.{listOf}
 use Rattle.answers.specs.Input.{Input, input}
 use Rattle.cells.specs.IsRow.{rowAt}
-use Rattle.newick.specs.Nodes.{lefts, rights}
+use Rattle.tips.specs.Nodes.{lefts, rights}
 use Rattle.symbols.specs.Code.{codeOf}
 use Rattle.sheet.specs.Judge.{Contents}
 

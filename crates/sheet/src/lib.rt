@@ -9,13 +9,13 @@ ghost use Rattle.symbols.specs.Code.{codeOf};
 use lines::Fault;
 use lines::Place;
 use lines::line_end;
-use newick::Subtree;
 use newick::tree_line;
 use sections::Reading;
 use sections::Sections;
 use sections::read_sections;
 use symbols::Symbol;
 use symbols::symbol_of;
+use tips::Subtree;
 
 // What a sound sheet has: the number of tips, columns and nodes, and the place of its first cell.
 pub struct Sheet {

@@ -1,6 +1,10 @@
 -- The readers of a tree and of a pair meet their contracts. The measure is twice the depth left, and one more for a
 -- tree.
 -- Assumes nothing.
+use Rattle.tips.proofs.byte_is.Reads as byte-is-reads
+use Rattle.tips.proofs.narrow.Reads as narrow-reads
+use Rattle.tips.proofs.put_node.Reads as put-node-reads
+use Rattle.tips.proofs.read_name.Reads as read-name-reads
 use Rattle.newick.proofs.PairSteps.{
   byte-inside,
   gives-tree,
@@ -35,10 +39,6 @@ use Rattle.newick.proofs.+read_pair+read_tree.Lts-read_pair as read-pai
 use Rattle.newick.proofs.read_tree.Reads as read-tree
 use Rattle.newick.proofs.read_tree.Kinds as read-tree-kinds
 use Rattle.newick.proofs.+read_pair+read_tree.Lts-read_tree as read-tree-lts
-use Rattle.newick.proofs.byte_is.Reads as byte-is-reads
-use Rattle.newick.proofs.narrow.Reads as narrow-reads
-use Rattle.newick.proofs.put_node.Reads as put-node-reads
-use Rattle.newick.proofs.read_name.Reads as read-name-reads
 
 abbrev μ-read-pair : Measures 5 read-pair-kinds.ps ℕ
 μ-read-pair κs a = a .1 .1 .1 .1 .1 .0 * 2

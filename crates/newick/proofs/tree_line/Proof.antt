@@ -1,5 +1,6 @@
 -- `newick::tree_line` meets its contract, case by case.
 -- Assumes nothing.
+use Rattle.tips.specs.Marks.{unmarked}
 use Rattle.newick.proofs.LineSteps.{
   start-ready,
   line-none,
@@ -10,7 +11,6 @@ use Rattle.newick.proofs.LineSteps.{
   line-nodes,
 }
 use Rattle.newick.proofs.PairSteps.{byte-inside, gives-tree, gives-none}
-use Rattle.newick.specs.Marks.{unmarked}
 use Rattle.lines.proofs.ByteLaws.{test-yes, test-no}
 use native.Mathlib.Numerals.{add-one-le}
 use native.Mathlib.Nat.{lt-of-le-of-lt}

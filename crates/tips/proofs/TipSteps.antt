@@ -1,4 +1,4 @@
--- The turns of the readers: a name, a pair, and what they leave in the lists.
+-- The turns of the name's reader, and what it leaves in the lists.
 -- Assumes nothing.
 use mathlib.Core.Bool.{true, false}
 use mathlib.Core.List.{List}
@@ -11,14 +11,14 @@ use Rattle.parsimony.specs.Test.{pick}
 use Rattle.parsimony.proofs.Order.{pick-true, pick-false}
 use Rattle.lines.specs.Count.{onPlace}
 use Rattle.lines.specs.declared.Place.the-variants.{At, Nowhere}
-use Rattle.newick.specs.Marks.{isMarked, marked}
-use Rattle.newick.specs.Nodes.{lefts, rights}
-use Rattle.newick.specs.Parse.{got, noTree, tipOf}
-use Rattle.newick.specs.Reading.{Ready, Got, Gives}
-use Rattle.newick.specs.Token.{tokenEnd, rowOf}
-use Rattle.newick.specs.Vine.{tip, size}
-use Rattle.newick.specs.declared.Subtree.the-variants.{Tree, NoTree}
-use Rattle.newick.proofs.MarkLaws.{met-few, met-mark, marks-mark}
+use Rattle.tips.specs.Marks.{isMarked, marked}
+use Rattle.tips.specs.Nodes.{lefts, rights}
+use Rattle.tips.specs.Tip.{got, noTree, tipOf}
+use Rattle.tips.specs.Reading.{Ready, Got, Gives}
+use Rattle.tips.specs.Token.{tokenEnd, rowOf}
+use Rattle.tips.specs.Vine.{tip, size}
+use Rattle.tips.specs.declared.Subtree.the-variants.{Tree, NoTree}
+use Rattle.tips.proofs.MarkLaws.{met-few, met-mark, marks-mark}
 
 module _ (sheet names : List ℕ) (t : ℕ) (marks : List ℕ) (i : ℕ) where
   -- where no name stands there is no tree

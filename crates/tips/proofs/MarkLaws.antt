@@ -10,7 +10,7 @@ use borrow.Author.Tests.{eqb-false}
 use lib.ListN.{length, getD, set, length-set, replicate, length-replicate, getD-replicate, List·getD-eq-default}
 use lib.Seq.{getD-set-same, getD-set-other}
 use Rattle.parsimony.proofs.Order.{by-lt, by-eq}
-use Rattle.newick.specs.Marks.{unmarked, isMarked, marked, met, IsMarks}
+use Rattle.tips.specs.Marks.{unmarked, isMarked, marked, met, IsMarks}
 
 -- no name has been met at first
 met-none : (n : ℕ) → met (replicate n 0) ≡ 0

@@ -1,9 +1,9 @@
--- `newick::set_mark` meets its contract.
+-- `tips::set_mark` meets its contract.
 -- Assumes nothing.
-use Rattle.newick.specs.Marks.{marked}
+use Rattle.tips.specs.Marks.{marked}
 use mathlib.Core.Path.{refl}
-use Rattle.newick.proofs.set_mark.Statement.{statement}
-use Rattle.newick.proofs.set_mark.Tie as tie
+use Rattle.tips.proofs.set_mark.Statement.{statement}
+use Rattle.tips.proofs.set_mark.Tie as tie
 
 element-write-marks : tie.Need-element-write-marks
 element-write-marks c = (c .pre)

@@ -1,10 +1,10 @@
--- `newick::test_mark` meets its contract.
+-- `tips::test_mark` meets its contract.
 -- Assumes nothing.
-use Rattle.newick.specs.Marks.{isMarked}
+use Rattle.tips.specs.Marks.{isMarked}
 use borrow.Author.Tests.{eq-eqb, ne-eqb}
 use mathlib.Core.Path.{sym}
-use Rattle.newick.proofs.test_mark.Statement.{statement}
-use Rattle.newick.proofs.test_mark.Tie as tie
+use Rattle.tips.proofs.test_mark.Statement.{statement}
+use Rattle.tips.proofs.test_mark.Tie as tie
 
 element-copy-out-if1 : tie.Need-element-copy-out-if1
 element-copy-out-if1 c = (c .pre)

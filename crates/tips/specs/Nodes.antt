@@ -2,7 +2,7 @@
 -- Assumes nothing.
 use mathlib.Core.List.{List, [], _∷_, _++_}
 use Prim.Native.Nat.{ℕ, _+_, _-_}
-use Rattle.newick.specs.Vine.{Vine, tip, pair, size}
+use Rattle.tips.specs.Vine.{Vine, tip, pair, size}
 
 -- the left entries of a tree's nodes, the first of which has the number n: 65,535 for a name, the left child for a pair
 unfoldable pub lefts : Vine → ℕ → List ℕ

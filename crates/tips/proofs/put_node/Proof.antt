@@ -1,9 +1,9 @@
--- `newick::put_node` meets its contract: both entries are written.
+-- `tips::put_node` meets its contract: both entries are written.
 -- Assumes nothing.
 use mathlib.Core.Path.{refl}
 use borrow.Author.Needs.{needs}
-use Rattle.newick.proofs.put_node.Statement.{statement}
-use Rattle.newick.proofs.put_node.Tie as tie
+use Rattle.tips.proofs.put_node.Statement.{statement}
+use Rattle.tips.proofs.put_node.Tie as tie
 
 mul-left : tie.Need-mul-left
 mul-left c = search needs

@@ -1,12 +1,12 @@
--- `newick::find_row` meets its contract. The invariant: the names from r on decide. The measure is the number of
+-- `tips::find_row` meets its contract. The invariant: the names from r on decide. The measure is the number of
 -- names left.
 -- Assumes nothing.
-use Rattle.newick.proofs.TokenLaws.{searchFrom, search-begin, search-found, search-more, search-none}
+use Rattle.tips.proofs.TokenLaws.{searchFrom, search-begin, search-found, search-more, search-none}
 use Prim.Native.Nat.{_-_}
 use mathlib.Core.Path.{_≡_, refl, sym, _∙_}
 use borrow.Author.Needs.{needs}
-use Rattle.newick.proofs.find_row.Statement.{statement}
-use Rattle.newick.proofs.find_row.Tie as tie
+use Rattle.tips.proofs.find_row.Statement.{statement}
+use Rattle.tips.proofs.find_row.Tie as tie
 
 abbrev Inv-loop : tie.InvT-loop
 Inv-loop sheet names t at end r₀ r = searchFrom sheet names t at end 0 ≡ searchFrom sheet names t at end r

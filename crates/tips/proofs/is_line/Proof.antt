@@ -1,10 +1,10 @@
--- `newick::is_line` meets its contract.
+-- `tips::is_line` meets its contract.
 -- Assumes nothing.
-use Rattle.newick.proofs.TokenLaws.{line-not, line-end}
+use Rattle.tips.proofs.TokenLaws.{line-not, line-end}
 use mathlib.Core.Path.{sym, _∙_}
 use borrow.Author.Needs.{needs}
-use Rattle.newick.proofs.is_line.Statement.{statement}
-use Rattle.newick.proofs.is_line.Tie as tie
+use Rattle.tips.proofs.is_line.Statement.{statement}
+use Rattle.tips.proofs.is_line.Tie as tie
 
 sub-word-end : tie.Need-sub-word-end
 sub-word-end c = search needs

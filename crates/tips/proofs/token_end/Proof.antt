@@ -1,15 +1,15 @@
--- `newick::token_end` meets its contract. The invariant: the name ends where the bytes from i on end it. The measure
+-- `tips::token_end` meets its contract. The invariant: the name ends where the bytes from i on end it. The measure
 -- is what is left of the sheet.
 -- Assumes nothing.
 use Rattle.lines.proofs.ByteLaws.{test-yes, test-no}
-use Rattle.newick.proofs.TokenLaws.{token-more, token-stop, token-end}
-use Rattle.newick.specs.Token.{tokenEnd}
+use Rattle.tips.proofs.TokenLaws.{token-more, token-stop, token-end}
+use Rattle.tips.specs.Token.{tokenEnd}
 use lib.ListN.{length}
 use Prim.Native.Nat.{_-_}
 use mathlib.Core.Path.{_≡_, refl, sym, _∙_}
 use borrow.Author.Needs.{needs}
-use Rattle.newick.proofs.token_end.Statement.{statement}
-use Rattle.newick.proofs.token_end.Tie as tie
+use Rattle.tips.proofs.token_end.Statement.{statement}
+use Rattle.tips.proofs.token_end.Tie as tie
 
 abbrev Inv-loop : tie.InvT-loop
 Inv-loop sheet at i₀ i = tokenEnd sheet at ≡ tokenEnd sheet i

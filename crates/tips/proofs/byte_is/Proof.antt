@@ -1,12 +1,12 @@
--- `newick::byte_is` meets its contract.
+-- `tips::byte_is` meets its contract.
 -- Assumes nothing.
 use lib.ListN.{getD, List·getD-eq-default}
 use borrow.Author.Tests.{eq-eqb, ne-eqb}
 use mathlib.Core.Path.{_≡_, sym}
 use native.Mathlib.Omega.{arith}
 use borrow.Author.Needs.{needs}
-use Rattle.newick.proofs.byte_is.Statement.{statement}
-use Rattle.newick.proofs.byte_is.Tie as tie
+use Rattle.tips.proofs.byte_is.Statement.{statement}
+use Rattle.tips.proofs.byte_is.Tie as tie
 
 returns : tie.Need-returns
 returns c = sym (ne-eqb (getD (c .before .args .sheet .now) (c .before .args .i) 0) (c .before .args .byte) (λ e. let

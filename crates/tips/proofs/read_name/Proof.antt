@@ -1,14 +1,14 @@
--- `newick::read_name` meets its contract, case by case.
+-- `tips::read_name` meets its contract, case by case.
 -- Assumes nothing.
-use Rattle.newick.proofs.TreeSteps.{tip-room, name-empty, name-unknown, name-again, name-got}
-use Rattle.newick.proofs.TokenLaws.{row-below, token-from, token-within}
+use Rattle.tips.proofs.TipSteps.{tip-room, name-empty, name-unknown, name-again, name-got}
+use Rattle.tips.proofs.TokenLaws.{row-below, token-from, token-within}
 use lib.ListN.{length}
 use Prim.Native.Nat.{_≤_}
 use mathlib.Core.Path.{subst, sym, _∙_}
 use native.Mathlib.Omega.{arith}
 use borrow.Author.Needs.{needs}
-use Rattle.newick.proofs.read_name.Statement.{statement}
-use Rattle.newick.proofs.read_name.Tie as tie
+use Rattle.tips.proofs.read_name.Statement.{statement}
+use Rattle.tips.proofs.read_name.Tie as tie
 
 token-end-requires : tie.Need-token-end-requires
 token-end-requires c κs = search needs

@@ -17,7 +17,7 @@ use Rattle.lines.specs.Bytes.{textOf}
 use Rattle.lines.specs.Count.{onPlace}
 use Rattle.lines.specs.Word.{wordOf}
 use lib.Dec.{eqb}
-use Rattle.newick.specs.Token.{tokenIn, tokenEnd, isLineOf, findIn, rowOf}
+use Rattle.tips.specs.Token.{tokenIn, tokenEnd, isLineOf, findIn, rowOf}
 
 pub nowhere-at : {r : ℕ} → Nowhere ≡ At r → ⊥
 nowhere-at e = let z : _≡_ {A = ℕ} 0 1 = cc in omega arith
