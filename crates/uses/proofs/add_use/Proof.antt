@@ -1,10 +1,10 @@
--- `marks::add_use` meets its contract: a store at u adds one there, and past the entries nothing is to be added.
+-- `add_use` meets its contract: a store at u adds one there, and past the entries nothing is to be added.
 -- Assumes nothing.
 use native.Mathlib.Omega.{arith}
 use borrow.Author.Needs.{needs}
-use Rattle.shapes.proofs.MarkLaws.{raised-set, raised-out}
-use Rattle.shapes.proofs.marks.add_use.Statement.{statement}
-use Rattle.shapes.proofs.marks.add_use.Tie as tie
+use Rattle.uses.proofs.MarkLaws.{raised-set, raised-out}
+use Rattle.uses.proofs.add_use.Statement.{statement}
+use Rattle.uses.proofs.add_use.Tie as tie
 
 mul-marks : tie.Need-mul-marks
 mul-marks c = search needs

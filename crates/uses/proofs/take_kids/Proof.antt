@@ -1,12 +1,12 @@
--- `marks::take_kids` meets its contract: children that are free get a use each, and else nothing is written.
+-- `take_kids` meets its contract: children that are free get a use each, and else nothing is written.
 -- Assumes nothing.
 use mathlib.Core.Path.{refl}
 use native.Mathlib.Omega.{arith}
 use borrow.Author.Needs.{needs}
 use Rattle.parsimony.proofs.TellsLaws.{unless-yes, unless-no}
-use Rattle.shapes.proofs.MarkLaws.{raised-both, raised-most, most-weak}
-use Rattle.shapes.proofs.marks.take_kids.Statement.{statement}
-use Rattle.shapes.proofs.marks.take_kids.Tie as tie
+use Rattle.uses.proofs.MarkLaws.{raised-both, raised-most, most-weak}
+use Rattle.uses.proofs.take_kids.Statement.{statement}
+use Rattle.uses.proofs.take_kids.Tie as tie
 
 kids-free-requires : tie.Need-kids-free-requires
 kids-free-requires c κs = search needs

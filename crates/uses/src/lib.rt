@@ -6,7 +6,7 @@ ghost use Rattle.parsimony.specs.Table.{SizeRules, nodeAt, kidsOf, childUses};
 ghost use Rattle.parsimony.specs.Tells.{Tells};
 ghost use Rattle.parsimony.specs.Test.{at};
 ghost use Rattle.parsimony.specs.Tree.{each};
-ghost use Rattle.shapes.specs.Marks.{Counted, Most, Raised, Took};
+ghost use Rattle.uses.specs.Marks.{Counted, Most, Raised, Took};
 ghost use Rattle.trees.specs.NodeOf.{nodeOf};
 use trees::nodes::MOST_NODES;
 use trees::nodes::Node;
@@ -38,7 +38,7 @@ fn note_kids(node: Node, marks: &mut [u16; MOST_NODES])
 }
 
 // Adds the uses of children by the nodes from first on to marks that count those by the nodes below it.
-pub(crate) fn note_children(left: &[u16], right: &[u16], first: usize, used: &mut [u16; MOST_NODES])
+pub fn note_children(left: &[u16], right: &[u16], first: usize, used: &mut [u16; MOST_NODES])
     requires { ⌜ SizeRules (now left) (now right) × (first ≤ length (now left)) ⌝ }
     requires { ⌜ Counted (childUses (nodeAt (now left) (now right)) first) (now used) ⌝ }
     ensures { λ _. ⌜ Counted
@@ -92,7 +92,7 @@ fn kids_free(a: usize, b: usize, v: usize, seen: &[u16; MOST_NODES]) -> bool
 }
 
 // Whether a row is free; if so, its use is added to the marks.
-pub(crate) fn take_row(r: usize, t: usize, rows: &mut [u16; MOST_NODES]) -> bool
+pub fn take_row(r: usize, t: usize, rows: &mut [u16; MOST_NODES]) -> bool
     requires { ⌜ (t ≤ 1023) × Most 65534 (now rows) ⌝ }
     ensures { λ b. ⌜ Took ((r < t) × (getD (now (rows .entry)) r 0 ≡ 0)) (λ w. at w 1 r)
         (now (rows .entry)) (now (rows .exit)) b ⌝ }
@@ -105,7 +105,7 @@ pub(crate) fn take_row(r: usize, t: usize, rows: &mut [u16; MOST_NODES]) -> bool
 }
 
 // Whether the two children of node v are free; if so, their uses are added to the marks.
-pub(crate) fn take_kids(a: usize, b: usize, v: usize, seen: &mut [u16; MOST_NODES]) -> bool
+pub fn take_kids(a: usize, b: usize, v: usize, seen: &mut [u16; MOST_NODES]) -> bool
     requires { ⌜ (v ≤ 1023) × Most 65533 (now seen) ⌝ }
     ensures { λ r. ⌜ Took
         ((a < v) × (b < v) × (a ≡ b → ⊥) × (getD (now (seen .entry)) a 0 ≡ 0) × (getD (now (seen .entry)) b 0 ≡ 0))

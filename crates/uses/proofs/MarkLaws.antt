@@ -12,8 +12,8 @@ use Rattle.parsimony.specs.Test.{at}
 use Rattle.parsimony.specs.Tree.{each}
 use Rattle.parsimony.proofs.Order.{by-eq, at-same, at-other}
 use Rattle.parsimony.proofs.TipLaws.{at-le}
-use Rattle.shapes.specs.Marks.{Counted, Most, Raised}
-use Rattle.shapes.proofs.ShapeSteps.{rows-next, rows-most, uses-next, uses-most}
+use Rattle.uses.specs.Marks.{Counted, Most, Raised}
+use Rattle.uses.proofs.UseSteps.{rows-next, rows-most, uses-next, uses-most}
 
 -- marks to which nothing is added
 pub raised-none : (f : ℕ → ℕ) (marks : List ℕ) → ((w : ℕ) → w < 1023 → f w ≡ 0) → Raised f marks marks
@@ -80,12 +80,13 @@ pub counted-zeros : Counted (λ w. 0) (replicate 1023 0)
 counted-zeros =
     record { size = length-replicate {A = ℕ} 1023 0; entry = λ w i. getD-replicate {A = ℕ} 1023 w 0 0 i }
 
--- the uses by at most 1,023 nodes are far from the most that an entry holds
+-- the child uses by at most 1,023 nodes are far from the most that an entry holds
 pub children-low : (node : ℕ → Node) {v : ℕ} {marks : List ℕ} → Counted (childUses node v) marks → v ≤ 1023
     → Most 65533 marks
 children-low node {v} {marks} c h =
     counted-most 65533 _ marks c (λ w. let low = uses-most node v w in omega arith)
 
+-- so are the row uses
 pub rows-low : (node : ℕ → Node) (k : Kind) {v : ℕ} {marks : List ℕ} → Counted (rowUses k node v) marks → v ≤ 1023
     → Most 65534 marks
 rows-low node k {v} {marks} c h =

@@ -1,4 +1,4 @@
--- `marks::note_children` meets its contract. The invariant: the marks count the child uses of the nodes below v. The
+-- `note_children` meets its contract. The invariant: the marks count the child uses of the nodes below v. The
 -- measure is what is left of the nodes.
 -- Assumes nothing.
 use Prim.Native.Nat.{_≤_, _-_}
@@ -6,10 +6,10 @@ use native.Mathlib.Omega.{arith}
 use borrow.Author.Needs.{needs}
 use lib.ListN.{length}
 use Rattle.parsimony.specs.Table.{nodeAt, childUses}
-use Rattle.shapes.specs.Marks.{Counted}
-use Rattle.shapes.proofs.MarkLaws.{children-low, children-counted, children-end}
-use Rattle.shapes.proofs.marks.note_children.Statement.{statement}
-use Rattle.shapes.proofs.marks.note_children.Tie as tie
+use Rattle.uses.specs.Marks.{Counted}
+use Rattle.uses.proofs.MarkLaws.{children-low, children-counted, children-end}
+use Rattle.uses.proofs.note_children.Statement.{statement}
+use Rattle.uses.proofs.note_children.Tie as tie
 
 abbrev Inv-loop : tie.InvT-loop
 Inv-loop left right first used₀ v₀ used v = (v ≤ length left) × Counted (childUses (nodeAt left right) v) used

@@ -1,9 +1,9 @@
--- `marks::kids_free` meets its contract: each failed test refutes one part of the statement, and together they are it.
+-- `kids_free` meets its contract: each failed test refutes one part of the statement, and together they are it.
 -- Assumes nothing.
 use native.Mathlib.Omega.{arith}
 use borrow.Author.Needs.{needs}
-use Rattle.shapes.proofs.marks.kids_free.Statement.{statement}
-use Rattle.shapes.proofs.marks.kids_free.Tie as tie
+use Rattle.uses.proofs.kids_free.Statement.{statement}
+use Rattle.uses.proofs.kids_free.Tie as tie
 
 -- the left child is not below v
 returns : tie.Need-returns

@@ -1,9 +1,9 @@
--- `marks::row_free` meets its contract: each failed test refutes one part of the statement, and together they are it.
+-- `row_free` meets its contract: each failed test refutes one part of the statement, and together they are it.
 -- Assumes nothing.
 use native.Mathlib.Omega.{arith}
 use borrow.Author.Needs.{needs}
-use Rattle.shapes.proofs.marks.row_free.Statement.{statement}
-use Rattle.shapes.proofs.marks.row_free.Tie as tie
+use Rattle.uses.proofs.row_free.Statement.{statement}
+use Rattle.uses.proofs.row_free.Tie as tie
 
 -- the row's number is not below t
 returns : tie.Need-returns

@@ -1,11 +1,11 @@
--- `marks::note_kids` meets its contract: a tip adds nothing, and an inner node one use for each child.
+-- `note_kids` meets its contract: a tip adds nothing, and an inner node one use for each child.
 -- Assumes nothing.
 use mathlib.Core.Path.{refl}
 use native.Mathlib.Omega.{arith}
 use borrow.Author.Needs.{needs}
-use Rattle.shapes.proofs.MarkLaws.{raised-none, raised-both, raised-most, most-weak}
-use Rattle.shapes.proofs.marks.note_kids.Statement.{statement}
-use Rattle.shapes.proofs.marks.note_kids.Tie as tie
+use Rattle.uses.proofs.MarkLaws.{raised-none, raised-both, raised-most, most-weak}
+use Rattle.uses.proofs.note_kids.Statement.{statement}
+use Rattle.uses.proofs.note_kids.Tie as tie
 
 enum-told : tie.Need-enum-told
 enum-told c = search needs

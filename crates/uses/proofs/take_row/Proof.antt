@@ -1,10 +1,10 @@
--- `marks::take_row` meets its contract: a row that is free gets a use, and else nothing is written.
+-- `take_row` meets its contract: a row that is free gets a use, and else nothing is written.
 -- Assumes nothing.
 use mathlib.Core.Path.{refl}
 use borrow.Author.Needs.{needs}
 use Rattle.parsimony.proofs.TellsLaws.{unless-yes, unless-no}
-use Rattle.shapes.proofs.marks.take_row.Statement.{statement}
-use Rattle.shapes.proofs.marks.take_row.Tie as tie
+use Rattle.uses.proofs.take_row.Statement.{statement}
+use Rattle.uses.proofs.take_row.Tie as tie
 
 row-free-requires : tie.Need-row-free-requires
 row-free-requires c κs = search needs
