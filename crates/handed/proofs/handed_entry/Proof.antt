@@ -1,8 +1,8 @@
--- `tables::rules::handed_entry` meets its contract. Each branch's test is what the answer tells. Assumes nothing.
+-- `handed_entry` meets its contract. Each branch's test is what the answer tells. Assumes nothing.
 use mathlib.Core.Logic.{inl, inr, ⊎-elim}
 use native.Mathlib.Omega.{arith}
-use Rattle.tables.proofs.rules.handed_entry.Statement.{statement}
-use Rattle.tables.proofs.rules.handed_entry.Tie as tie
+use Rattle.handed.proofs.handed_entry.Statement.{statement}
+use Rattle.handed.proofs.handed_entry.Tie as tie
 
 returns : tie.Need-returns
 returns c = record { told = inl (c .if1 .taken) }

@@ -1,4 +1,4 @@
--- `tables::rules::row_open` meets its contract. The loop's invariant: every entry of the row before x is barred. The
+-- `row_open` meets its contract. The loop's invariant: every entry of the row before x is barred. The
 -- measure is what is left of the row. Assumes nothing.
 use mathlib.Core.Path.{_≡_}
 use Prim.Native.Nat.{ℕ, _+_, _-_, _<_}
@@ -7,8 +7,8 @@ use lib.ListN.{getD}
 use borrow.Author.Count.{below-none, below-more}
 use borrow.Author.Needs.{needs}
 use Rattle.parsimony.specs.Barred.{barred}
-use Rattle.tables.proofs.rules.row_open.Statement.{statement}
-use Rattle.tables.proofs.rules.row_open.Tie as tie
+use Rattle.handed.proofs.row_open.Statement.{statement}
+use Rattle.handed.proofs.row_open.Tie as tie
 
 abbrev Inv-loop : tie.InvT-loop
 Inv-loop entries at s x₀ x = (k : ℕ) → k < x → getD entries (at + k) 0 ≡ barred

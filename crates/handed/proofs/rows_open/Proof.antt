@@ -1,4 +1,4 @@
--- `tables::rules::rows_open` meets its contract. The loop's invariant: each row before i has an entry that is not
+-- `rows_open` meets its contract. The loop's invariant: each row before i has an entry that is not
 -- barred. The measure is the number of rows left. Assumes nothing.
 use mathlib.Core.Path.{_≡_}
 use Prim.Native.Nat.{ℕ, _+_, _*_, _-_, _<_, _≤_}
@@ -8,10 +8,9 @@ use borrow.Author.Count.{below-none, below-more}
 use borrow.Author.Needs.{needs}
 use Rattle.parsimony.specs.Barred.{barred}
 use Rattle.parsimony.proofs.ColumnLaws.{place}
-use Rattle.parsimony.proofs.TellsLaws.{unless-yes, unless-no}
-use Rattle.tables.proofs.RuleSteps.{all-no, all-yes}
-use Rattle.tables.proofs.rules.rows_open.Statement.{statement}
-use Rattle.tables.proofs.rules.rows_open.Tie as tie
+use Rattle.parsimony.proofs.TellsLaws.{unless-yes, unless-no, all-no, all-yes}
+use Rattle.handed.proofs.rows_open.Statement.{statement}
+use Rattle.handed.proofs.rows_open.Tie as tie
 
 abbrev Inv-loop : tie.InvT-loop
 Inv-loop entries n s i₀ i = (k : ℕ) → k < i → (x : ℕ) × (x < s) × (getD entries (k * s + x) 0 ≡ barred → ⊥)

@@ -1,12 +1,12 @@
--- `tables::rules::handed_fit` meets its contract. Each refusal breaks a rule; past them the rows decide.
+-- `handed_fit` meets its contract. Each refusal breaks a rule; past them the rows decide.
 -- Assumes nothing.
 use native.Mathlib.Nat.{mul-le-mul}
 use native.Mathlib.Omega.{arith}
 use borrow.Author.Needs.{needs}
 use Rattle.parsimony.proofs.TellsLaws.{unless-yes, unless-no}
-use Rattle.tables.proofs.RuleSteps.{handed-tell}
-use Rattle.tables.proofs.rules.handed_fit.Statement.{statement}
-use Rattle.tables.proofs.rules.handed_fit.Tie as tie
+use Rattle.handed.proofs.HandedLaws.{handed-tell}
+use Rattle.handed.proofs.handed_fit.Statement.{statement}
+use Rattle.handed.proofs.handed_fit.Tie as tie
 
 mul-rows : tie.Need-mul-rows
 mul-rows c = omega (arith, mul-le-mul (c .before .pre .2) (c .before .pre .3))

@@ -1,4 +1,4 @@
--- `tables::rules::all_handed` meets its contract. The loop's invariant: every entry before i is at most 1,020,978 or
+-- `all_handed` meets its contract. The loop's invariant: every entry before i is at most 1,020,978 or
 -- barred. The measure is what is left of the entries. Assumes nothing.
 use mathlib.Core.Logic.{_⊎_}
 use mathlib.Core.Path.{_≡_}
@@ -8,10 +8,9 @@ use borrow.Author.Count.{below-none, below-more}
 use borrow.Author.Needs.{needs}
 use Rattle.parsimony.specs.Allowed.{mostHanded}
 use Rattle.parsimony.specs.Barred.{barred}
-use Rattle.parsimony.proofs.TellsLaws.{unless-yes, unless-no}
-use Rattle.tables.proofs.RuleSteps.{all-no, all-yes}
-use Rattle.tables.proofs.rules.all_handed.Statement.{statement}
-use Rattle.tables.proofs.rules.all_handed.Tie as tie
+use Rattle.parsimony.proofs.TellsLaws.{unless-yes, unless-no, all-no, all-yes}
+use Rattle.handed.proofs.all_handed.Statement.{statement}
+use Rattle.handed.proofs.all_handed.Tie as tie
 
 abbrev Inv-loop : tie.InvT-loop
 Inv-loop entries i₀ i = (k : ℕ) → k < i → (getD entries k 0 ≤ mostHanded) ⊎ (getD entries k 0 ≡ barred)
