@@ -5,11 +5,11 @@ ghost use Rattle.answers.specs.CallRules.{matrixRules, tableRules};
 ghost use Rattle.answers.specs.Input.{input};
 use crate::Answer;
 use crate::Refusal;
+use handed::handed_fit;
 use shapes::shape::Tree;
 use shapes::shape::check_tree;
 use tables::rules::cells_fit;
 use tables::rules::costs_fit;
-use tables::rules::handed_fit;
 use trees::nodes::size_fits;
 use trees::nodes::tips_of;
 

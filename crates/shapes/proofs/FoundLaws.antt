@@ -9,7 +9,7 @@ use Rattle.parsimony.specs.Fault.{KeepsEntries, Keeps, LowestFault}
 use Rattle.parsimony.specs.Table.{Node, TreeRules, childUses}
 use Rattle.parsimony.proofs.Order.{by-lt}
 use Rattle.parsimony.proofs.ShapeLaws.{keeps-rules}
-use Rattle.shapes.specs.Marks.{Counted}
+use Rattle.uses.specs.Marks.{Counted}
 use Rattle.shapes.specs.Visit.{First}
 
 module _ {n : ℕ} {node : ℕ → Node} {used : List ℕ} {f v : ℕ} (most : n ≤ 1023)

@@ -11,10 +11,9 @@ use Rattle.parsimony.specs.Table.{Kind, symbol, handed, Node, leaf, inner, kids
 use Rattle.parsimony.specs.Test.{at}
 use Rattle.parsimony.specs.Tree.{each}
 use Rattle.trees.proofs.NodeLaws.{tips-most}
-use Rattle.shapes.specs.Marks.{Counted, Most, Raised, Took}
-use Rattle.shapes.specs.Visit.{forKind, Surveyed, Marked, Ready, VisitedBy, Visited}
-use Rattle.shapes.proofs.ShapeSteps.{rows-none, uses-none}
-use Rattle.shapes.proofs.MarkLaws.{
+use Rattle.uses.specs.Marks.{Counted, Most, Raised, Took}
+use Rattle.uses.proofs.UseSteps.{rows-none, uses-none}
+use Rattle.uses.proofs.MarkLaws.{
   raised-none,
   counted-same,
   children-low,
@@ -22,6 +21,7 @@ use Rattle.shapes.proofs.MarkLaws.{
   children-counted,
   rows-counted,
 }
+use Rattle.shapes.specs.Visit.{forKind, Surveyed, Marked, Ready, VisitedBy, Visited}
 
 -- The entries of a node with number v keep their rules, by the marks of the lower nodes' uses: seen for children, rows
 -- for the matrix rows, of which there are t, and given for the handed rows, of which there are h.

@@ -1,5 +1,4 @@
--- What the test of a tree says, over the definitions of `parsimony`.
+-- What the test of a tree says, over the definitions of `parsimony` and `uses`.
 -- Assumes nothing.
 pub mod Found
-pub mod Marks
 pub mod Visit

@@ -6,7 +6,7 @@ use mathlib.Core.Path.{_≡_}
 use Prim.Native.Nat.{ℕ, _+_, _<_, _≤_}
 use Rattle.parsimony.specs.Fault.{KeepsEntries}
 use Rattle.parsimony.specs.Table.{Kind, symbol, handed, Node, tips, rowUses, childUses}
-use Rattle.shapes.specs.Marks.{Counted}
+use Rattle.uses.specs.Marks.{Counted}
 
 -- of two things, the one for symbol tips or the one for handed tips
 abbrev pub forKind : {A : Type 0} → Kind → A → A → A

@@ -1,3 +1,2 @@
 // The test of a tree: whether each node keeps the rules, and the lowest node that does not.
-mod marks;
 pub mod shape;

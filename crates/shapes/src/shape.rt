@@ -5,16 +5,16 @@ ghost use lib.ListN.{length, getD};
 ghost use Rattle.parsimony.specs.Fault.{KeepsEntries};
 ghost use Rattle.parsimony.specs.Table.{SizeRules, nodeAt, childUses};
 ghost use Rattle.parsimony.specs.Tells.{Tells};
+ghost use Rattle.uses.specs.Marks.{Counted};
 ghost use Rattle.shapes.specs.Found.{Found};
-ghost use Rattle.shapes.specs.Marks.{Counted};
 ghost use Rattle.shapes.specs.Visit.{First, Surveyed, Marked, Ready, Visited};
-use crate::marks::note_children;
-use crate::marks::take_kids;
-use crate::marks::take_row;
 use trees::nodes::MOST_NODES;
 use trees::nodes::Node;
 use trees::nodes::node_at;
 use trees::nodes::tips_of;
+use uses::note_children;
+use uses::take_kids;
+use uses::take_row;
 
 // What the test of a tree finds: a legal tree, or the lowest node at fault.
 pub enum Tree {

@@ -1,3 +1,3 @@
--- Laws of the loops of the tests of costs, cells and handed rows.
+-- Laws of the tests of costs and cells.
 -- Assumes nothing.
 pub mod RuleSteps

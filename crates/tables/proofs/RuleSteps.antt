@@ -1,26 +1,15 @@
--- What a yes or no tells of all numbers below a bound; a bound of powers; and how the tests of the entries add up to
--- the rules of costs, cells and handed rows.
+-- A bound of powers, and how the tests of the entries add up to the rules of costs and cells.
 -- Assumes nothing.
-use mathlib.Core.Bool.{Bool, true, false}
+use mathlib.Core.Bool.{Bool}
 use mathlib.Core.List.{List}
-use mathlib.Core.Logic.{_⊎_}
 use mathlib.Core.Path.{_≡_}
 use Prim.Native.Nat.{ℕ, _+_, _*_, _^_, _≤_, _<_}
 use native.Mathlib.Omega.{arith}
 use lib.ListN.{length, getD}
 use lib.Pow.{pow-pos, pow-mono}
-use Rattle.parsimony.specs.Allowed.{CostRules, CellRules, HandedRules, mostHanded}
-use Rattle.parsimony.specs.Barred.{barred}
+use Rattle.parsimony.specs.Allowed.{CostRules, CellRules}
 use Rattle.parsimony.specs.Tells.{Tells}
 use Rattle.parsimony.proofs.TellsLaws.{tells-same}
-
--- no: a number below n has not P
-pub all-no : (P : ℕ → Type 0) {n i : ℕ} → i < n → (P i → ⊥) → Tells ((k : ℕ) → k < n → P k) false
-all-no P {i = i} h bad = record { told = λ all. bad (all i h) }
-
--- yes: every number below i has P, and n is at most i
-pub all-yes : (P : ℕ → Type 0) {n i : ℕ} → n ≤ i → ((k : ℕ) → k < i → P k) → Tells ((k : ℕ) → k < n → P k) true
-all-yes P h all = record { told = λ k l. all k (omega arith) }
 
 -- two to a power of at most 16
 pub pow-within : (s : ℕ) → s ≤ 16 → (1 ≤ 2 ^ s) × (2 ^ s ≤ 65536)
@@ -58,12 +47,3 @@ cells-tell s t c cells columns count full =
       rules .filled i (omega arith),
       let w = rules .bits i (omega arith) in omega arith,
     ))
-
--- where there is an entry for each column, row and state, each in range, the rows decide
-pub handed-tell : (s c h : ℕ) (entries : List ℕ) {b : Bool} → length entries ≡ c * h * s
-    → ((i : ℕ) → i < length entries → (getD entries i 0 ≤ mostHanded) ⊎ (getD entries i 0 ≡ barred))
-    → Tells ((i : ℕ) → i < c * h → (x : ℕ) × (x < s) × (getD entries (i * s + x) 0 ≡ barred → ⊥)) b
-    → Tells (HandedRules s c h entries) b
-handed-tell s c h entries count range =
-    tells-same (λ rows. record { count = count; range = λ i l. range i (omega arith); unbarred = rows })
-    (λ rules. rules .unbarred)

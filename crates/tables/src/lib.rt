@@ -1,2 +1,2 @@
-// The tests of what comes with a tree table: costs, cells and handed rows. Each decides a rule of `parsimony`.
+// The tests of costs and cells that come with a tree table. Each decides a rule of `parsimony`.
 pub mod rules;

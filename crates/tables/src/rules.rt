@@ -1,11 +1,9 @@
-// The rules of costs, cells and handed rows.
-ghost use mathlib.Core.Logic.{_⊎_};
+// The rules of costs and cells.
 ghost use mathlib.Core.Path.{_≡_};
 ghost use Prim.Native.Nat.{ℕ, _+_, _*_, _^_, _<_, _≤_};
 ghost use lib.Dec.{eqb};
 ghost use lib.ListN.{length, getD};
-ghost use Rattle.parsimony.specs.Allowed.{CostRules, CellRules, HandedRules, mostHanded};
-ghost use Rattle.parsimony.specs.Barred.{barred};
+ghost use Rattle.parsimony.specs.Allowed.{CostRules, CellRules};
 ghost use Rattle.parsimony.specs.Column.{costAt};
 ghost use Rattle.parsimony.specs.Counting.{UnitCosts};
 ghost use Rattle.parsimony.specs.Test.{pick};
@@ -16,10 +14,6 @@ const MOST_STATES: usize = 16;
 const MOST_COST: u16 = 999;
 
 const MOST_COLUMNS: usize = 65535;
-
-const MOST_HANDED: u32 = 1020978;
-
-const BARRED: u32 = 4294967295;
 
 // s is 2 to 16, the costs are s by s, each at most 999, and 0 on the diagonal.
 pub fn costs_fit(s: usize, costs: &[u16]) -> bool
@@ -52,21 +46,6 @@ pub fn cells_fit(s: usize, t: usize, c: usize, cells: &[u16]) -> bool
         return false;
     }
     all_within(cells, 1, last_set(s))
-}
-
-// An entry for each of c columns, h rows and s states, each at most 1,020,978 or barred, and no row wholly barred.
-pub fn handed_fit(s: usize, c: usize, h: usize, entries: &[u32]) -> bool
-    requires { ⌜ (1 ≤ s) × (s ≤ 16) × (c ≤ 65535) × (h ≤ 1023) ⌝ }
-    ensures { λ r. ⌜ Tells (HandedRules s c h (now (entries .entry))) r ⌝ }
-{
-    let rows = c * h;
-    if entries.len() != rows * s {
-        return false;
-    }
-    if !all_handed(entries) {
-        return false;
-    }
-    rows_open(entries, rows, s)
 }
 
 // The costs are unit costs: 0 on the diagonal and 1 off it.
@@ -126,68 +105,6 @@ fn last_set(s: usize) -> u16
     ensures { λ r. ⌜ r + 1 ≡ 2 ^ s ⌝ }
 {
     ((1usize << s) - 1) as u16
-}
-
-// Every entry is at most 1,020,978 or barred.
-fn all_handed(entries: &[u32]) -> bool
-    ensures { λ r. ⌜ Tells
-        ((i : ℕ) → i < length (now (entries .entry))
-        → (getD (now (entries .entry)) i 0 ≤ mostHanded) ⊎ (getD (now (entries .entry)) i 0 ≡ barred))
-        r ⌝ }
-{
-    let mut i = 0;
-    while i < entries.len() {
-        if !handed_entry(entries[i]) {
-            return false;
-        }
-        i += 1;
-    }
-    true
-}
-
-// An entry is at most 1,020,978 or barred.
-fn handed_entry(e: u32) -> bool
-    ensures { λ r. ⌜ Tells ((e ≤ mostHanded) ⊎ (e ≡ barred)) r ⌝ }
-{
-    if e <= MOST_HANDED {
-        return true;
-    }
-    if e == BARRED {
-        return true;
-    }
-    false
-}
-
-// Each of n rows of s entries has an entry that is not barred.
-fn rows_open(entries: &[u32], n: usize, s: usize) -> bool
-    requires { ⌜ (1 ≤ s) × (length (now entries) ≡ n * s) ⌝ }
-    ensures { λ r. ⌜ Tells
-        ((i : ℕ) → i < n → (x : ℕ) × (x < s) × (getD (now (entries .entry)) (i * s + x) 0 ≡ barred → ⊥))
-        r ⌝ }
-{
-    let mut i = 0;
-    while i < n {
-        if !row_open(entries, i * s, s) {
-            return false;
-        }
-        i += 1;
-    }
-    true
-}
-
-// Of the s entries from at on, one is not barred.
-fn row_open(entries: &[u32], at: usize, s: usize) -> bool
-    requires { ⌜ at + s ≤ length (now entries) ⌝ }
-    ensures { λ r. ⌜ Tells ((x : ℕ) × (x < s) × (getD (now (entries .entry)) (at + x) 0 ≡ barred → ⊥)) r ⌝ }
-{
-    let mut x = 0;
-    while x < s {
-        if entries[at + x] != BARRED {
-            return true;
-        }
-        x += 1;
-    }
-    false
 }
 
 // Row x of the costs is 0 at x and 1 elsewhere.

@@ -3,8 +3,8 @@
 -- Assumes nothing.
 use native.Mathlib.Omega.{arith}
 use borrow.Author.Needs.{needs}
+use Rattle.uses.proofs.MarkLaws.{counted-zeros}
 use Rattle.shapes.proofs.FoundLaws.{found-none, found-fault}
-use Rattle.shapes.proofs.MarkLaws.{counted-zeros}
 use Rattle.shapes.proofs.VisitLaws.{surveyed, marked-none}
 use Rattle.shapes.proofs.shape.check_tree.Statement.{statement}
 use Rattle.shapes.proofs.shape.check_tree.Tie as tie

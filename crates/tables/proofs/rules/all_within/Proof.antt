@@ -5,7 +5,7 @@ use native.Mathlib.Omega.{arith}
 use lib.ListN.{length, getD}
 use borrow.Author.Count.{below-none, below-more}
 use borrow.Author.Needs.{needs}
-use Rattle.tables.proofs.RuleSteps.{all-no, all-yes}
+use Rattle.parsimony.proofs.TellsLaws.{all-no, all-yes}
 use Rattle.tables.proofs.rules.all_within.Statement.{statement}
 use Rattle.tables.proofs.rules.all_within.Tie as tie
 

@@ -7,7 +7,7 @@ use lib.ListN.{length, getD}
 use borrow.Author.Count.{below-none, below-more}
 use borrow.Author.Needs.{needs}
 use Rattle.parsimony.proofs.ColumnLaws.{place}
-use Rattle.tables.proofs.RuleSteps.{all-no, all-yes}
+use Rattle.parsimony.proofs.TellsLaws.{all-no, all-yes}
 use Rattle.tables.proofs.rules.diagonal_free.Statement.{statement}
 use Rattle.tables.proofs.rules.diagonal_free.Tie as tie
 

@@ -10,7 +10,7 @@ use borrow.Author.Needs.{needs}
 use Rattle.parsimony.specs.Column.{costAt}
 use Rattle.parsimony.specs.Test.{pick}
 use Rattle.parsimony.proofs.ColumnLaws.{place}
-use Rattle.tables.proofs.RuleSteps.{all-no, all-yes}
+use Rattle.parsimony.proofs.TellsLaws.{all-no, all-yes}
 use Rattle.tables.proofs.rules.unit_row.Statement.{statement}
 use Rattle.tables.proofs.rules.unit_row.Tie as tie
 

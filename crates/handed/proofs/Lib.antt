@@ -1,0 +1,3 @@
+-- Laws of the test of handed rows.
+-- Assumes nothing.
+pub mod HandedLaws

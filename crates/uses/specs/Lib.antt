@@ -1,0 +1,3 @@
+-- What the marks of uses say.
+-- Assumes nothing.
+pub mod Marks
