@@ -25,10 +25,9 @@ use Rattle.roots.specs.Starts.{stateOf}
 use Rattle.works.proofs.Meaning.{score-meant, label-meant, set-meant}
 use Rattle.works.proofs.ResultUnique.{entry-unique}
 use Rattle.works.proofs.ResultLaws.{row-entry}
-use Rattle.scorer.specs.Promises.{Scored, Labelled, SetsFound, HandedUp}
-use Rattle.cuts.specs.Call.{ScoreCall, HandUpCall, LabelCall, SetsCall}
+use Rattle.cuts.specs.Call.{Call, ScoreCall, HandUpCall, LabelCall, SetsCall}
 use Rattle.answers.specs.Answers as Answers
-use Rattle.cuts.specs.Call as Call
+use Rattle.cuts.specs.Call as Calls
 
 -- where every rule of a call holds, its answer is done
 given-done : (rules : List (Type 0)) (left right : List ℕ) (a : Answer) → All rules → Answers.Given rules left right
@@ -37,7 +36,7 @@ given-done rules left right Done all g = refl
 given-done rules left right (Refused r) all g = absurd (all-not-first rules _ all (g .given .0))
 
 -- No call on a table that keeps the rules is refused, given room, a column and a start.
-pub rules-answer : (I : Input) → All (tableRules I []) → Call.Answers I
+pub rules-answer : (I : Input) → All (tableRules I []) → Calls.Answers I
 rules-answer I r =
     let r1 = r .0 in
     let r2 = r .1 .0 in
@@ -78,6 +77,13 @@ rules-answer I r =
           (r1, (r2, (r3, (r4, (r5, (hj, (tt, (room, tt))))))));
     }
 
+-- what a call promises, where its answer is done
+done-promise : {I : Input} {n : ℕ} {Promise : List ℕ → List ℕ → Answer → List ℕ → List ℕ → Type 0} {f : ℕ → ℕ}
+    (call : Call I n Promise f) → call .answer ≡ Done
+    → Promise (call .output) (call .rows) Done (call .outputAfter) (call .rowsAfter)
+done-promise {Promise = Promise} call a =
+    subst (λ b. Promise (call .output) (call .rows) b (call .outputAfter) (call .rowsAfter)) a (call .promise)
+
 module _ (I : Input) (rules : All (tableRules I [])) (j : ℕ) (inside : j < I .c) where
   abbrev P : Column
   P = column I j
@@ -90,16 +96,14 @@ module _ (I : Input) (rules : All (tableRules I [])) (j : ℕ) (inside : j < I .
   unfolding columnOf
   hand-up-row e call x h =
       let a = rules-answer I rules .handUp j _ _ inside (call .room) (call .answer) (call .promise .answer) in
-      let written = subst (λ b. HandedUp I j (call .row) (call .rows) b (call .rowAfter) (call .rowsAfter)) a (call
-      .promise) .lists in
+      let written = done-promise call a .lists in
       call .result x h ∙ entry-unique P x _ _ (written .each .each x h) (row-entry P sound x h)
 
   -- what a call of scoring leaves is the score
   pub score-of : (S : ℕ → ℕ) → ScoreCall I S → S j ≡ score P
   score-of S call =
       let a = rules-answer I rules .score _ _ (call .room) (call .answer) (call .promise .answer) in
-      let written = subst (λ b. Scored I (call .scores) (call .rows) b (call .scoresAfter) (call .rowsAfter)) a (call
-      .promise) .lists in
+      let written = done-promise call a .lists in
       call .result j inside ∙ score-meant I rules j inside _ (written .each .each j inside)
 
   -- what a call of labelling leaves is the labelling by rows
@@ -108,16 +112,14 @@ module _ (I : Input) (rules : All (tableRules I [])) (j : ℕ) (inside : j < I .
   unfolding columnOf
   labels-of start l ok call v h =
       let a = rules-answer I rules .label j start _ _ inside ok (call .room) (call .answer) (call .promise .answer) in
-      let written = subst (λ b. Labelled I j start (call .states) (call .rows) b (call .statesAfter) (call
-      .rowsAfter)) a (call .promise) .lists in
+      let written = done-promise call a .lists in
       call .result v h
-      ∙ label-meant I rules j inside start (λ u. getD (call .statesAfter) u 0) ok (written .labels) v h
+      ∙ label-meant I rules j inside start (λ u. getD (call .outputAfter) u 0) ok (written .labels) v h
 
   -- what a call for the sets leaves are the sets by rows
   pub sets-of : (start : Start) (S : ℕ → ℕ) → SetStart I j start → SetsCall I j start S
       → (v : ℕ) → v < nodes I → S v ≡ setsFrom P (stateOf start (freeSet P)) v
   sets-of start S ok call v h =
       let a = rules-answer I rules .sets j start _ _ inside ok (call .room) (call .answer) (call .promise .answer) in
-      let written = subst (λ b. SetsFound I j start (call .sets) (call .rows) b (call .setsAfter) (call .rowsAfter))
-      a (call .promise) .lists in
+      let written = done-promise call a .lists in
       call .result v h ∙ set-meant I rules j inside start v _ ok h (written .each .each v h)

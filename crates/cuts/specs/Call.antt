@@ -13,49 +13,34 @@ use Rattle.answers.specs.declared.Answer.the-variants.{Done}
 use Rattle.answers.specs.declared.Start.{Start}
 use Rattle.scorer.specs.Promises.{Scored, Labelled, SetsFound, HandedUp}
 
--- a call of scoring, with room, that leaves S j as the score of each column j
-pub record ScoreCall (I : Input) (S : ℕ → ℕ) : Type 0 where
-  pub scores : List ℕ
+-- a call on table I, by what it promises of a lent output and the row room, with room for n entries, that leaves f i as
+-- entry i of the output
+pub record Call (I : Input) (n : ℕ) (Promise : List ℕ → List ℕ → Answer → List ℕ → List ℕ → Type 0) (f : ℕ → ℕ)
+    : Type 0 where
+  pub output : List ℕ
   pub rows : List ℕ
   pub answer : Answer
-  pub scoresAfter : List ℕ
+  pub outputAfter : List ℕ
   pub rowsAfter : List ℕ
-  pub promise : Scored I scores rows answer scoresAfter rowsAfter
-  pub room : Fits I (I .c) (length scores) (length rows)
-  pub result : (j : ℕ) → j < I .c → S j ≡ getD scoresAfter j 0
+  pub promise : Promise output rows answer outputAfter rowsAfter
+  pub room : Fits I n (length output) (length rows)
+  pub result : (i : ℕ) → i < n → f i ≡ getD outputAfter i 0
 
--- a call of handing up column j, with room, that leaves e x as the entry of each state x
-pub record HandUpCall (I : Input) (j : ℕ) (e : ℕ → ℕ) : Type 0 where
-  pub row : List ℕ
-  pub rows : List ℕ
-  pub answer : Answer
-  pub rowAfter : List ℕ
-  pub rowsAfter : List ℕ
-  pub promise : HandedUp I j row rows answer rowAfter rowsAfter
-  pub room : Fits I (I .s) (length row) (length rows)
-  pub result : (x : ℕ) → x < I .s → e x ≡ getD rowAfter x 0
+-- a call of scoring: S j is the score of each column j
+abbrev pub ScoreCall : Input → (ℕ → ℕ) → Type 0
+ScoreCall I S = Call I (I .c) (Scored I) S
 
--- a call of labelling column j from a start, with room, that leaves l v as the state of each node v
-pub record LabelCall (I : Input) (j : ℕ) (start : Start) (l : ℕ → ℕ) : Type 0 where
-  pub states : List ℕ
-  pub rows : List ℕ
-  pub answer : Answer
-  pub statesAfter : List ℕ
-  pub rowsAfter : List ℕ
-  pub promise : Labelled I j start states rows answer statesAfter rowsAfter
-  pub room : Fits I (nodes I) (length states) (length rows)
-  pub result : (v : ℕ) → v < nodes I → l v ≡ getD statesAfter v 0
+-- a call of handing up column j: e x is the entry of each state x
+abbrev pub HandUpCall : Input → ℕ → (ℕ → ℕ) → Type 0
+HandUpCall I j e = Call I (I .s) (HandedUp I j) e
 
--- a call for the sets of column j from a start, with room, that leaves S v as the set of each node v
-pub record SetsCall (I : Input) (j : ℕ) (start : Start) (S : ℕ → ℕ) : Type 0 where
-  pub sets : List ℕ
-  pub rows : List ℕ
-  pub answer : Answer
-  pub setsAfter : List ℕ
-  pub rowsAfter : List ℕ
-  pub promise : SetsFound I j start sets rows answer setsAfter rowsAfter
-  pub room : Fits I (nodes I) (length sets) (length rows)
-  pub result : (v : ℕ) → v < nodes I → S v ≡ getD setsAfter v 0
+-- a call of labelling column j from a start: l v is the state of each node v
+abbrev pub LabelCall : Input → ℕ → Start → (ℕ → ℕ) → Type 0
+LabelCall I j start l = Call I (nodes I) (Labelled I j start) l
+
+-- a call for the sets of column j from a start: S v is the set of each node v
+abbrev pub SetsCall : Input → ℕ → Start → (ℕ → ℕ) → Type 0
+SetsCall I j start S = Call I (nodes I) (SetsFound I j start) S
 
 -- No call on the table is refused, given room, a column of it and a start that may be given for its root.
 pub record Answers (I : Input) : Type 0 where

@@ -55,14 +55,37 @@ fn comb(left: &mut [u16], right: &mut [u16])
     }
 }
 
-// Scoring the first n nodes of a tree, every tip in state 0.
+// Scoring, with room for one score and for two entries of each of 1,025 nodes.
+fn score(
+    left: &[u16],
+    right: &[u16],
+    s: u64,
+    costs: &[u16],
+    c: u64,
+    cells: &[u16],
+    handed: &[u32],
+) -> u64 {
+    let mut scores = [7u32; 1];
+    let mut rows = [7u32; 2050];
+    fernijster_score(
+        left,
+        right,
+        s,
+        costs,
+        c,
+        cells,
+        handed,
+        &mut scores,
+        &mut rows,
+    )
+}
+
+// Scoring the first n nodes of a tree of two states.
 fn score_first(left: &[u16], right: &[u16], cells: &[u16], n: usize) -> u64
     requires { ⌜ (n ≤ length (now left)) × (n ≤ length (now right)) × (n ≤ length (now cells)) ⌝ }
 {
-    let mut scores = [7u32; 1];
-    let mut rows = [7u32; 2050];
     let tips = n / 2 + n % 2;
-    fernijster_score(
+    score(
         &left[..n],
         &right[..n],
         2,
@@ -70,12 +93,10 @@ fn score_first(left: &[u16], right: &[u16], cells: &[u16], n: usize) -> u64
         1,
         &cells[..tips],
         &[],
-        &mut scores,
-        &mut rows,
     )
 }
 
-// Scoring the first n nodes of a comb.
+// Scoring the first n nodes of a comb, every tip in state 0.
 fn score_comb(n: usize) -> u64
     requires { ⌜ n < 1026 ⌝ }
 {
@@ -93,26 +114,20 @@ fn sizes() {
     show(b"n = 1,025:", score_comb(1025));
 }
 
-// Scoring a table of two tips under a root with unit costs of two states.
-fn score_two(left: &[u16], right: &[u16]) -> u64 {
-    let mut scores = [7u32; 1];
-    let mut rows = [7u32; 6];
-    fernijster_score(
-        left,
-        right,
-        2,
-        &[0, 1, 1, 0],
-        1,
-        &[1, 2],
-        &[],
-        &mut scores,
-        &mut rows,
-    )
-}
-
-// The table of two tips with the root's left child and the right list that are given.
+// Two tips in states 0 and 1 under a root, with the root's left child and the right list that are given.
 fn show_two(what: &[u8], child: u16, right: &[u16]) {
-    show(what, score_two(&[65535, 65535, child], right));
+    show(
+        what,
+        score(
+            &[65535, 65535, child],
+            right,
+            2,
+            &[0, 1, 1, 0],
+            1,
+            &[1, 2],
+            &[],
+        ),
+    );
 }
 
 fn shapes() {
@@ -124,26 +139,9 @@ fn shapes() {
     show_two(b"a child twice:", 1, &[0, 1, 1]);
 }
 
-// Scoring a table of one tip.
-fn score_tip(right: u16, s: u64, costs: &[u16], c: u64, cells: &[u16], handed: &[u32]) -> u64 {
-    let mut scores = [7u32; 1];
-    let mut rows = [7u32; 17];
-    fernijster_score(
-        &[65535],
-        &[right],
-        s,
-        costs,
-        c,
-        cells,
-        handed,
-        &mut scores,
-        &mut rows,
-    )
-}
-
 // One tip with the cell that is given, under a cost table of s states.
 fn show_costs(what: &[u8], s: u64, cell: u16, costs: &[u16]) {
-    show(what, score_tip(0, s, costs, 1, &[cell], &[]));
+    show(what, score(&[65535], &[0], s, costs, 1, &[cell], &[]));
 }
 
 fn costs() {
@@ -158,7 +156,10 @@ fn costs() {
 
 // One tip of two states, its cells in c columns.
 fn show_cells(what: &[u8], right: u16, c: u64, cells: &[u16]) {
-    show(what, score_tip(right, 2, &[0, 1, 1, 0], c, cells, &[]));
+    show(
+        what,
+        score(&[65535], &[right], 2, &[0, 1, 1, 0], c, cells, &[]),
+    );
 }
 
 fn cells() {
@@ -172,7 +173,10 @@ fn cells() {
 
 // One tip of two states that is handed its row in one column.
 fn show_handed(what: &[u8], handed: &[u32]) {
-    show(what, score_tip(32768, 2, &[0, 1, 1, 0], 1, &[], handed));
+    show(
+        what,
+        score(&[65535], &[32768], 2, &[0, 1, 1, 0], 1, &[], handed),
+    );
 }
 
 fn handed() {
@@ -182,14 +186,12 @@ fn handed() {
     show_handed(b"handed, one entry:", &[0]);
     show(
         b"handed to no tip:",
-        score_tip(0, 2, &[0, 1, 1, 0], 1, &[1], &[0, 0]),
+        score(&[65535], &[0], 2, &[0, 1, 1, 0], 1, &[1], &[0, 0]),
     );
 }
 
-// Labelling one tip of state 0 of two.
-fn label_tip(column: u64, start: u64) -> u64 {
-    let mut states = [7u8; 1];
-    let mut rows = [7u32; 2];
+// Labelling one tip of state 0 of two, into the lists that are lent.
+fn label_tip(column: u64, start: u64, states: &mut [u8], rows: &mut [u32]) -> u64 {
     fernijster_label(
         &[65535],
         &[0],
@@ -200,8 +202,8 @@ fn label_tip(column: u64, start: u64) -> u64 {
         &[],
         column,
         start,
-        &mut states,
-        &mut rows,
+        states,
+        rows,
     )
 }
 
@@ -225,7 +227,7 @@ fn set_tip(column: u64, start: u64) -> u64 {
 }
 
 fn show_label(what: &[u8], column: u64, start: u64) {
-    show(what, label_tip(column, start));
+    show(what, label_tip(column, start, &mut [7; 1], &mut [7; 2]));
 }
 
 fn show_set(what: &[u8], column: u64, start: u64) {
@@ -273,23 +275,7 @@ fn hand_up_tip(row: &mut [u32], rows: &mut [u32]) -> u64 {
     fernijster_hand_up(&[65535], &[0], 2, &[0, 1, 1, 0], 1, &[1], &[], 0, row, rows)
 }
 
-// Labelling with no room: WHICH comes before ROOM.
-fn label_room(column: u64) -> u64 {
-    fernijster_label(
-        &[65535],
-        &[0],
-        2,
-        &[0, 1, 1, 0],
-        1,
-        &[1],
-        &[],
-        column,
-        NO_START,
-        &mut [],
-        &mut [],
-    )
-}
-
+// The last two lend no room at all: WHICH comes before ROOM.
 fn rooms() {
     show(
         b"room for 2 entries and 2 row entries:",
@@ -300,8 +286,14 @@ fn rooms() {
         b"room for 1 row entry:",
         hand_up_tip(&mut [7; 2], &mut [7; 1]),
     );
-    show(b"column 1 of 1, no room:", label_room(1));
-    show(b"column 0 of 1, no room:", label_room(0));
+    show(
+        b"column 1 of 1, no room:",
+        label_tip(1, NO_START, &mut [], &mut []),
+    );
+    show(
+        b"column 0 of 1, no room:",
+        label_tip(0, NO_START, &mut [], &mut []),
+    );
 }
 
 fn main() {
