@@ -1,5 +1,5 @@
-// Answers as numbers: the one number that a call returns for its answer, and the start that a number stands for. The low
-// 8 bits are the number of the paper's list; above them stands what it carries.
+// Answers as numbers: the one number that a call returns for its answer, and the start that a number stands for. The
+// low 8 bits are the number of the paper's list; above them stands what it carries.
 ghost use mathlib.Core.Path.{_≡_};
 ghost use Prim.Native.Nat.{_<_, _≤_};
 ghost use Rattle.answers.specs.Answers.{carriedBy};

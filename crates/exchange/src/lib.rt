@@ -72,8 +72,8 @@ fn give_line(
     answer
 }
 
-// The line of a column of the sheet, without its line end: the low 8 bits of the result are the number; bits 8 to 31 the
-// bytes written when done, the line when the sheet is refused.
+// The line of a column of the sheet, without its line end: the low 8 bits of the result are the number; bits 8 to 31
+// the bytes written when done, the line when the sheet is refused.
 #[no_mangle]
 pub extern "C" fn fernijster_column(sheet: &[u8], column: u64, out: &mut [u8]) -> u64
     ensures { λ r. ⌜ Entered (now (sheet .entry)) column (now (out .entry)) r (now (out .exit)) ⌝ }

@@ -23,8 +23,8 @@ unfoldable pub reportOf : List ℕ → List ℕ
 unfolding onJudged reportIn refusedLine
 reportOf sheet = onJudged (judge sheet) (λ f. refusedLine (faultNumber f) (faultLine f)) (reportIn sheet)
 
--- a page as it was printed: before and after are its bytes, size is how many of them were printed; next is the column to
--- go on from, and total the scores up to there
+-- a page as it was printed: before and after are its bytes, size is how many of them were printed; next is the column
+-- to go on from, and total the scores up to there
 pub record Page : Type 0 where
   pub before : List ℕ
   pub after : List ℕ

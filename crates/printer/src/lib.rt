@@ -16,8 +16,8 @@ use sheet::put_cells;
 use texts::put_byte;
 use texts::put_text;
 
-// Prints the line of column j into line, and answers its length and the column's score. The other lists are room for the
-// work.
+// Prints the line of column j into line, and answers its length and the column's score. The other lists are room for
+// the work.
 pub fn sheet_line(
     sheet: &[u8],
     s: Sheet,
@@ -180,7 +180,8 @@ pub fn print_page(
 // Writes the line of a refused sheet, and answers its length.
 pub fn refusal_line(fault: Fault, line: &mut [u8]) -> usize
     requires { ⌜ 64 ≤ length (now line) ⌝ }
-    ensures { λ r. ⌜ Starts (refusedLine (faultNumber fault) (faultLine fault)) (now (line .entry)) (now (line .exit)) r ⌝ }
+    ensures { λ r. ⌜ Starts (refusedLine (faultNumber fault) (faultLine fault))
+        (now (line .entry)) (now (line .exit)) r ⌝ }
 {
     match fault {
         Fault::Sheet(at) => refused_line(9, at, line),
