@@ -1,4 +1,5 @@
 // The rules of costs and cells.
+ghost use mathlib.Core.Logic.{_⊎_};
 ghost use mathlib.Core.Path.{_≡_};
 ghost use Prim.Native.Nat.{ℕ, _+_, _*_, _^_, _<_, _≤_};
 ghost use lib.Dec.{eqb};
@@ -63,23 +64,41 @@ pub fn unit_costs(s: usize, costs: &[u16]) -> bool
     true
 }
 
-// Every number of the list is least to most.
+// The lower of two numbers.
+fn lower(a: u16, b: u16) -> u16
+    ensures { λ r. ⌜ (r ≤ a) × (r ≤ b) × ((r ≡ a) ⊎ (r ≡ b)) ⌝ }
+{
+    if a < b { a } else { b }
+}
+
+// The higher of two numbers.
+fn higher(a: u16, b: u16) -> u16
+    ensures { λ r. ⌜ (a ≤ r) × (b ≤ r) × ((r ≡ a) ⊎ (r ≡ b)) ⌝ }
+{
+    if a < b { b } else { a }
+}
+
+// Every number of the list is least to most. The loop has no way out but its end: it can work on many numbers at once.
 fn all_within(list: &[u16], least: u16, most: u16) -> bool
     ensures { λ r. ⌜ Tells
         ((i : ℕ) → i < length (now (list .entry))
         → (least ≤ getD (now (list .entry)) i 0) × (getD (now (list .entry)) i 0 ≤ most))
         r ⌝ }
 {
+    let mut lowest: u16 = 65535;
+    let mut highest: u16 = 0;
     let mut i = 0;
     while i < list.len() {
         let e = list[i];
-        if e < least {
-            return false;
-        }
-        if most < e {
-            return false;
-        }
+        lowest = lower(lowest, e);
+        highest = higher(highest, e);
         i += 1;
+    }
+    if lowest < least {
+        return false;
+    }
+    if most < highest {
+        return false;
     }
     true
 }
