@@ -12,6 +12,7 @@ use trees::nodes::MOST_NODES;
 use trees::nodes::Node;
 use trees::nodes::node_at;
 use trees::nodes::tips_of;
+use uses::all_used;
 use uses::note_children;
 use uses::take_kids;
 use uses::take_row;
@@ -88,10 +89,16 @@ fn has_parent(v: usize, n: usize, used: &[u16; MOST_NODES]) -> bool
 }
 
 // The lowest node below the limit, but for the last of n, that no node names as a child, or the limit if there is none.
+// Where the limit is n, as in every legal tree, all nodes are looked at together first.
 fn first_unused(n: usize, limit: usize, used: &[u16; MOST_NODES]) -> usize
-    requires { ⌜ (limit ≤ n) × (n ≤ 1023) ⌝ }
+    requires { ⌜ (limit ≤ n) × (1 ≤ n) × (n ≤ 1023) ⌝ }
     ensures { λ r. ⌜ First (λ v. suc v < n → 1 ≤ getD (now (used .entry)) v 0) limit r ⌝ }
 {
+    if limit == n {
+        if all_used(n - 1, used) {
+            return limit;
+        }
+    }
     let mut u: usize = 0;
     while u < limit {
         if !has_parent(u, n, used) {

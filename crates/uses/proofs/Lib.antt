@@ -2,3 +2,4 @@
 -- Assumes nothing.
 pub mod UseSteps
 pub mod MarkLaws
+pub mod FewestSteps

@@ -1,6 +1,6 @@
 // Marks: for each number up to 1,022 how many nodes use it, as a child or as a row.
 ghost use mathlib.Core.Path.{_≡_};
-ghost use Prim.Native.Nat.{_+_, _<_, _≤_};
+ghost use Prim.Native.Nat.{ℕ, _+_, _<_, _≤_};
 ghost use lib.ListN.{length, getD};
 ghost use Rattle.parsimony.specs.Table.{SizeRules, nodeAt, kidsOf, childUses};
 ghost use Rattle.parsimony.specs.Tells.{Tells};
@@ -116,5 +116,25 @@ pub fn take_kids(a: usize, b: usize, v: usize, seen: &mut [u16; MOST_NODES]) -> 
     }
     add_use(seen, a);
     add_use(seen, b);
+    true
+}
+
+// Every number below the end has a use. The loop has no way out but its end: it can work on many numbers at once.
+pub fn all_used(end: usize, marks: &[u16; MOST_NODES]) -> bool
+    requires { ⌜ end ≤ 1023 ⌝ }
+    ensures { λ r. ⌜ Tells ((w : ℕ) → w < end → 1 ≤ getD (now (marks .entry)) w 0) r ⌝ }
+{
+    let mut fewest: u16 = 65535;
+    let mut u: usize = 0;
+    while u < end {
+        let uses = marks[u];
+        if uses < fewest {
+            fewest = uses;
+        }
+        u += 1;
+    }
+    if fewest == 0 {
+        return false;
+    }
     true
 }

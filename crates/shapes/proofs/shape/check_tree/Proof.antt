@@ -36,7 +36,7 @@ first-unused-requires : tie.Need-first-unused-requires
 first-unused-requires c κs =
     let walk = c .before .before .before .walk in
     let start = c .before .before .before .before .before .before .before .before .before .before .before in
-    (omega (arith, walk .ensures .0 .within), start .pre .most)
+    (omega (arith, walk .ensures .0 .within), omega (arith, start .pre .odd), start .pre .most)
 
 -- no node is at fault
 returns : tie.Need-returns
