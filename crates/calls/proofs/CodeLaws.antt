@@ -2,11 +2,11 @@
 -- Assumes nothing.
 use mathlib.Core.List.{List, []}
 use mathlib.Core.Path.{_≡_, subst}
-use Prim.Native.Nat.{ℕ, _+_, _*_, _<_}
+use Prim.Native.Nat.{ℕ, _+_, _*_, _/_, _%_, _<_}
 use native.Mathlib.Omega.{arith}
 use lib.ListN.{length}
 use Rattle.parsimony.specs.Barred.{barred}
-use Rattle.answers.specs.Answers.{carriedBy}
+use Rattle.answers.specs.Answers.{numberOf, carriedBy}
 use Rattle.answers.specs.Input.{Input, input}
 use Rattle.answers.specs.declared.Answer.{Answer}
 use Rattle.answers.specs.declared.Answer.the-variants.{Refused}
@@ -16,14 +16,23 @@ use Rattle.scorer.specs.Promises.{CountedBySets}
 use Rattle.scorer.specs.declared.Counted.{Counted}
 use Rattle.scorer.specs.declared.Counted.the-variants as Counts
 use Rattle.scorer.proofs.CountResult.{count-small}
-use Rattle.codes.proofs.CodeLaws.{carried-small}
+use Rattle.codes.specs.Codes.{packed, codeOf}
+use Rattle.codes.proofs.CodeLaws.{packed-number, packed-carried, number-small, carried-small}
+use Rattle.calls.specs.Coded.{countCode}
 
--- sums with nothing
-pub zero-first : (k : ℕ) → 256 * k ≡ 0 + 256 * 0 + 256 * k
-zero-first k = omega arith
+-- the code of a count, and of a refusal of set counting
+pub count-done : (k : ℕ) → 256 * k ≡ packed 0 (0 + k)
+count-done k = omega arith
 
-pub plus-none : (n : ℕ) → n ≡ n + 256 * 0
-plus-none n = omega arith
+pub count-refused : (a : Answer) → codeOf a ≡ packed (numberOf a) (carriedBy a + 0)
+count-refused a = omega arith
+
+-- packing loses nothing: the number, and the change count or SHAPE's node, are read back
+pub count-number : (a : Counted) → countCode a % 256 ≡ numberOf (answerOf a)
+count-number a = packed-number _ _ (number-small (answerOf a))
+
+pub count-carried : (a : Counted) → countCode a / 256 ≡ carriedBy (answerOf a) + changesOf a
+count-carried a = packed-carried _ _ (number-small (answerOf a))
 
 -- a call's promise from one start is its promise from another that is equal to it
 pub promise-from : (Promise : Input → ℕ → Start → List ℕ → List ℕ → Answer → List ℕ → List ℕ → Type 0)

@@ -2,18 +2,19 @@
 -- Assumes nothing.
 use mathlib.Core.List.{List}
 use mathlib.Core.Path.{_≡_}
-use Prim.Native.Nat.{ℕ, _+_, _*_}
+use Prim.Native.Nat.{ℕ, _+_}
+use Rattle.answers.specs.Answers.{numberOf, carriedBy}
 use Rattle.answers.specs.Input.{Input}
 use Rattle.answers.specs.declared.Answer.{Answer}
 use Rattle.answers.specs.declared.Start.{Start}
 use Rattle.scorer.specs.Promises.{Scored, Labelled, SetsFound, HandedUp, CountedBySets}
 use Rattle.scorer.specs.declared.Counted.{Counted}
-use Rattle.codes.specs.Codes.{codeOf}
+use Rattle.codes.specs.Codes.{packed, codeOf}
 use Rattle.scorer.specs.Counts.{answerOf, changesOf}
 
--- set counting's code: the change count stands above the number when done
+-- set counting's code: above the number the change count when done, SHAPE's node when refused
 abbrev pub countCode : Counted → ℕ
-countCode a = codeOf (answerOf a) + 256 * changesOf a
+countCode a = packed (numberOf (answerOf a)) (carriedBy (answerOf a) + changesOf a)
 
 pub record ScoredCode (I : Input) (scores rows : List ℕ) (code : ℕ) (scores' rows' : List ℕ) : Type 0 where
   pub answer : Answer

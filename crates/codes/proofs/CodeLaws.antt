@@ -20,7 +20,8 @@ packed-number number carried small = omega arith
 pub packed-carried : (number carried : ℕ) → number < 256 → packed number carried / 256 ≡ carried
 packed-carried number carried small = omega arith
 
-number-small : (a : Answer) → numberOf a < 256
+-- every number is small
+pub number-small : (a : Answer) → numberOf a < 256
 number-small Done = omega arith
 number-small (Refused Size) = omega arith
 number-small (Refused (Shape v)) = omega arith

@@ -3,6 +3,7 @@ pub mod Cases
 pub mod Examples
 pub mod Order
 pub mod TellsLaws
+pub mod Extremes
 pub mod Sums
 pub mod FilledLaws
 pub mod LeastLaws

@@ -1,5 +1,4 @@
 // The rules of costs and cells.
-ghost use mathlib.Core.Logic.{_⊎_};
 ghost use mathlib.Core.Path.{_≡_};
 ghost use Prim.Native.Nat.{ℕ, _+_, _*_, _^_, _<_, _≤_};
 ghost use lib.Dec.{eqb};
@@ -64,20 +63,6 @@ pub fn unit_costs(s: usize, costs: &[u16]) -> bool
     true
 }
 
-// The lower of two numbers.
-fn lower(a: u16, b: u16) -> u16
-    ensures { λ r. ⌜ (r ≤ a) × (r ≤ b) × ((r ≡ a) ⊎ (r ≡ b)) ⌝ }
-{
-    if a < b { a } else { b }
-}
-
-// The higher of two numbers.
-fn higher(a: u16, b: u16) -> u16
-    ensures { λ r. ⌜ (a ≤ r) × (b ≤ r) × ((r ≡ a) ⊎ (r ≡ b)) ⌝ }
-{
-    if a < b { b } else { a }
-}
-
 // Every number of the list is least to most. The loop has no way out but its end: it can work on many numbers at once.
 fn all_within(list: &[u16], least: u16, most: u16) -> bool
     ensures { λ r. ⌜ Tells
@@ -90,8 +75,12 @@ fn all_within(list: &[u16], least: u16, most: u16) -> bool
     let mut i = 0;
     while i < list.len() {
         let e = list[i];
-        lowest = lower(lowest, e);
-        highest = higher(highest, e);
+        if e < lowest {
+            lowest = e;
+        }
+        if highest < e {
+            highest = e;
+        }
         i += 1;
     }
     if lowest < least {

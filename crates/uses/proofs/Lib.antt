@@ -2,4 +2,3 @@
 -- Assumes nothing.
 pub mod UseSteps
 pub mod MarkLaws
-pub mod FewestSteps

@@ -6,9 +6,8 @@ use native.Mathlib.Omega.{arith}
 use borrow.Author.Needs.{needs}
 use Rattle.answers.specs.Answers.{carriedBy}
 use Rattle.answers.specs.declared.Answer.the-variants.{Refused}
-use Rattle.calls.proofs.CodeLaws.{zero-first, plus-none}
+use Rattle.calls.proofs.CodeLaws.{count-done, count-refused}
 use Rattle.calls.proofs.count_code.Statement.{statement}
-use Rattle.codes.specs.Codes.{codeOf}
 use Rattle.calls.specs.Coded.{countCode}
 use Rattle.scorer.specs.Counts.{answerOf, changesOf}
 use Rattle.calls.proofs.count_code.Tie as tie
@@ -33,13 +32,13 @@ refusal-code-requires c κs =
 returns : tie.Need-returns
 returns c =
     let k = c .before .counted .given .0 .0 in
-    zero-first k ∙ ap countCode (sym (c .before .counted .given .1))
+    count-done k ∙ ap countCode (sym (c .before .counted .given .1))
 
 returns-2 : tie.Need-returns-2
 returns-2 c =
     let counted2 = c .before .before .counted2 in
     c .refusal-code .ensures
-    ∙ plus-none (codeOf (Refused (counted2 .given .0 .0)))
+    ∙ count-refused (Refused (counted2 .given .0 .0))
     ∙ ap countCode (sym (counted2 .given .1))
 
 pub count-code-spec : {M : Type 1} → statement M
