@@ -6,32 +6,32 @@ use Prim.Native.Nat.{ℕ, _+_, _*_, _/_, _%_, _<_}
 use native.Mathlib.Omega.{arith}
 use lib.ListN.{length}
 use Rattle.parsimony.specs.Barred.{barred}
-use Rattle.answers.specs.Answers.{numberOf, carriedBy}
-use Rattle.answers.specs.Input.{Input, input}
-use Rattle.answers.specs.declared.Answer.{Answer}
-use Rattle.answers.specs.declared.Answer.the-variants.{Refused}
-use Rattle.answers.specs.declared.Start.{Start}
-use Rattle.scorer.specs.Counts.{answerOf, changesOf}
-use Rattle.scorer.specs.Promises.{CountedBySets}
-use Rattle.scorer.specs.declared.Counted.{Counted}
-use Rattle.scorer.specs.declared.Counted.the-variants as Counts
-use Rattle.scorer.proofs.CountResult.{count-small}
-use Rattle.codes.specs.Codes.{packed, codeOf}
-use Rattle.codes.proofs.CodeLaws.{packed-number, packed-carried, number-small, carried-small}
+use Rattle.promises.specs.Answers.{numberOf, carriedBy, answerOf, valueOf}
+use Rattle.promises.specs.Input.{Input, input}
+use Rattle.promises.specs.declared.Answer.{Answer}
+use Rattle.promises.specs.declared.Answer.the-variants.{Refused}
+use Rattle.promises.specs.declared.Start.{Start}
+use Rattle.promises.specs.Promises.{CountedBySets}
+use Rattle.promises.specs.declared.Valued.{Valued}
+use Rattle.promises.specs.declared.Valued.the-variants as Value
+use Rattle.promises.proofs.Meaning.{score-small}
+use Rattle.promises.proofs.RuleLaws.{count-parts}
+use Rattle.answer_codes.specs.Codes.{packed, answerCode}
+use Rattle.answer_codes.proofs.CodeLaws.{packed-number, packed-carried, number-small, carried-small}
 use Rattle.calls.specs.Coded.{countCode}
 
 -- the code of a count, and of a refusal of set counting
 pub count-done : (k : ℕ) → 256 * k ≡ packed 0 (0 + k)
 count-done k = omega arith
 
-pub count-refused : (a : Answer) → codeOf a ≡ packed (numberOf a) (carriedBy a + 0)
+pub count-refused : (a : Answer) → answerCode a ≡ packed (numberOf a) (carriedBy a + 0)
 count-refused a = omega arith
 
 -- packing loses nothing: the number, and the change count or SHAPE's node, are read back
-pub count-number : (a : Counted) → countCode a % 256 ≡ numberOf (answerOf a)
+pub count-number : (a : Valued) → countCode a % 256 ≡ numberOf (answerOf a)
 count-number a = packed-number _ _ (number-small (answerOf a))
 
-pub count-carried : (a : Counted) → countCode a / 256 ≡ carriedBy (answerOf a) + changesOf a
+pub count-carried : (a : Valued) → countCode a / 256 ≡ carriedBy (answerOf a) + valueOf a
 count-carried a = packed-carried _ _ (number-small (answerOf a))
 
 -- a call's promise from one start is its promise from another that is equal to it
@@ -43,9 +43,13 @@ promise-from Promise {I} {j} {list = list} {rows} {list'} {rows'} {a} e p =
 
 -- what set counting carries and counts is small
 pub counted-small : (left right : List ℕ) (s : ℕ) (costs : List ℕ) (c : ℕ) (cells : List ℕ) (j : ℕ)
-    (sets sets' : List ℕ) (a : Counted) → CountedBySets (input left right s costs c cells []) j sets a sets'
-    → (carriedBy (answerOf a) < 1023) × (changesOf a < barred)
-counted-small left right s costs c cells j sets sets' (Counts.Done k) p =
-    (omega arith, count-small left right s costs c cells j (length sets) k (p .answer .given) (p .lists .score))
-counted-small left right s costs c cells j sets sets' (Counts.Refused r) p =
+    (sets sets' : List ℕ) (a : Valued) → CountedBySets (input left right s costs c cells []) j sets a sets'
+    → (carriedBy (answerOf a) < 1023) × (valueOf a < barred)
+counted-small left right s costs c cells j sets sets' (Value.Done k) p =
+    let parts = count-parts left right s costs c cells j (length sets) (p .answer .given) in (
+      omega arith,
+      score-small (input left right s costs c cells []) (parts .table) j (parts .inside) k
+          (p .lists .score),
+    )
+counted-small left right s costs c cells j sets sets' (Value.Refused r) p =
     (carried-small (input left right s costs c cells []) _ (Refused r) (p .answer), omega arith)

@@ -3,15 +3,15 @@
 ghost use mathlib.Core.Path.{_≡_};
 ghost use mathlib.Core.List.{[]};
 ghost use Prim.Native.Nat.{_<_};
-ghost use Rattle.answers.specs.Answers.{carriedBy};
-ghost use Rattle.answers.specs.Input.{input};
+ghost use Rattle.promises.specs.Answers.{carriedBy, answerOf, valueOf};
+ghost use Rattle.promises.specs.Input.{entered, enteredWith};
 ghost use Rattle.calls.specs.Coded.{countCode, ScoredCode, LabelledCode, SetsCode, HandedUpCode, CountCode};
-ghost use Rattle.codes.specs.Codes.{startOf};
-ghost use Rattle.scorer.specs.Counts.{answerOf, changesOf};
-use codes::code;
-use codes::refusal_code;
-use codes::start_of;
-use scorer::Counted;
+ghost use Rattle.answer_codes.specs.Codes.{startOf};
+use answer_codes::code;
+use answer_codes::refusal_code;
+use answer_codes::start_of;
+use parsimony::Cell;
+use promises::Valued;
 
 // Scoring: the score of each column.
 #[no_mangle]
@@ -21,14 +21,14 @@ pub extern "C" fn fernijster_score(
     s: u64,
     costs: &[u16],
     c: u64,
-    cells: &[u16],
+    cells: &[Cell],
     handed: &[u32],
     scores: &mut [u32],
     rows: &mut [u32],
 ) -> u64
     ensures { λ r. ⌜ ScoredCode
-        (input (now (left .entry)) (now (right .entry)) s (now (costs .entry)) c (now (cells .entry))
-        (now (handed .entry))) (now (scores .entry)) (now (rows .entry)) r (now (scores .exit)) (now (rows .exit)) ⌝ }
+        (entered left right s costs c cells handed) (now (scores .entry)) (now (rows .entry)) r (now (scores .exit))
+        (now (rows .exit)) ⌝ }
 {
     code(scorer::score(
         left,
@@ -51,7 +51,7 @@ pub extern "C" fn fernijster_label(
     s: u64,
     costs: &[u16],
     c: u64,
-    cells: &[u16],
+    cells: &[Cell],
     handed: &[u32],
     column: u64,
     start: u64,
@@ -59,8 +59,7 @@ pub extern "C" fn fernijster_label(
     rows: &mut [u32],
 ) -> u64
     ensures { λ r. ⌜ LabelledCode
-        (input (now (left .entry)) (now (right .entry)) s (now (costs .entry)) c (now (cells .entry))
-        (now (handed .entry))) column (startOf start) (now (states .entry)) (now (rows .entry)) r
+        (entered left right s costs c cells handed) column (startOf start) (now (states .entry)) (now (rows .entry)) r
         (now (states .exit)) (now (rows .exit)) ⌝ }
 {
     code(scorer::label(
@@ -86,16 +85,15 @@ pub extern "C" fn fernijster_sets(
     s: u64,
     costs: &[u16],
     c: u64,
-    cells: &[u16],
+    cells: &[Cell],
     handed: &[u32],
     column: u64,
     start: u64,
-    sets: &mut [u16],
+    sets: &mut [Cell],
     rows: &mut [u32],
 ) -> u64
     ensures { λ r. ⌜ SetsCode
-        (input (now (left .entry)) (now (right .entry)) s (now (costs .entry)) c (now (cells .entry))
-        (now (handed .entry))) column (startOf start) (now (sets .entry)) (now (rows .entry)) r
+        (entered left right s costs c cells handed) column (startOf start) (now (sets .entry)) (now (rows .entry)) r
         (now (sets .exit)) (now (rows .exit)) ⌝ }
 {
     code(scorer::sets(
@@ -121,15 +119,15 @@ pub extern "C" fn fernijster_hand_up(
     s: u64,
     costs: &[u16],
     c: u64,
-    cells: &[u16],
+    cells: &[Cell],
     handed: &[u32],
     column: u64,
     row: &mut [u32],
     rows: &mut [u32],
 ) -> u64
     ensures { λ r. ⌜ HandedUpCode
-        (input (now (left .entry)) (now (right .entry)) s (now (costs .entry)) c (now (cells .entry))
-        (now (handed .entry))) column (now (row .entry)) (now (rows .entry)) r (now (row .exit)) (now (rows .exit)) ⌝ }
+        (entered left right s costs c cells handed) column (now (row .entry)) (now (rows .entry)) r (now (row .exit))
+        (now (rows .exit)) ⌝ }
 {
     code(scorer::hand_up(
         left,
@@ -146,13 +144,13 @@ pub extern "C" fn fernijster_hand_up(
 }
 
 // The number of set counting's answer, its node or its change count.
-fn count_code(counted: Counted) -> u64
-    requires { ⌜ (carriedBy (answerOf counted) < 72057594037927936) × (changesOf counted < 72057594037927936) ⌝ }
+fn count_code(counted: Valued) -> u64
+    requires { ⌜ (carriedBy (answerOf counted) < 72057594037927936) × (valueOf counted < 72057594037927936) ⌝ }
     ensures { λ r. ⌜ r ≡ countCode counted ⌝ }
 {
     match counted {
-        Counted::Done(changes) => 256 * (changes as u64),
-        Counted::Refused(refusal) => refusal_code(refusal),
+        Valued::Done(changes) => 256 * (changes as u64),
+        Valued::Refused(refusal) => refusal_code(refusal),
     }
 }
 
@@ -164,12 +162,12 @@ pub extern "C" fn fernijster_count(
     s: u64,
     costs: &[u16],
     c: u64,
-    cells: &[u16],
+    cells: &[Cell],
     column: u64,
-    sets: &mut [u16],
+    sets: &mut [Cell],
 ) -> u64
     ensures { λ r. ⌜ CountCode
-        (input (now (left .entry)) (now (right .entry)) s (now (costs .entry)) c (now (cells .entry)) []) column
+        (enteredWith left right s costs c cells []) column
         (now (sets .entry)) r (now (sets .exit)) ⌝ }
 {
     count_code(scorer::count(

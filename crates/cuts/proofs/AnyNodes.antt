@@ -5,9 +5,8 @@ use mathlib.Core.Path.{_≡_, refl, ap, ap₂, sym, _∙_, subst}
 use Prim.Native.Nat.{ℕ, suc, _-_, _≤_, _<_}
 use native.Mathlib.Omega.{arith}
 use Rattle.parsimony.specs.Row.{row}
-use Rattle.answers.specs.CallRules.{tableRules}
-use Rattle.answers.specs.Input.{Input, nodes, column}
-use Rattle.answers.specs.Rules.{All}
+use Rattle.promises.specs.CallRules.{Allowed}
+use Rattle.promises.specs.Input.{Input, nodes, column}
 use Rattle.cuts.specs.Cut.{CutAt, rest, restNode, inRest}
 use Rattle.cuts.specs.Cuttable.{Cuttable}
 use Rattle.cuts.specs.Nodes.{MayCut, noRows, cutsFrom, cutsAt, nodesCut}
@@ -30,20 +29,20 @@ ready-first I [] low may = tt
 ready-first I (v ∷ vs) low (h, (cut, may)) = (h, (cut, ready-first I vs (suc v) may))
 
 -- nodes higher than v that may be cut may be cut in the rest
-ready-rest : (I : Input) (rules : All (tableRules I [])) (v : ℕ) (cut : CutAt I v) (sent : ℕ → ℕ → ℕ)
+ready-rest : (I : Input) (table : Allowed I) (v : ℕ) (cut : CutAt I v) (sent : ℕ → ℕ → ℕ)
     → ((j x : ℕ) → j < I .c → x < I .s → sent j x ≡ row (column I j) v x)
     → (now : ℕ → ℕ) (vs : List ℕ) (low least : ℕ) → v < low
     → ((w : ℕ) → low ≤ w → least ≤ renumber (inRest I v sent .keep) w)
     → Ready I now low vs → Ready (rest I v sent) (λ u. renumber (inRest I v sent .keep) (now u)) least vs
-ready-rest I rules v cut sent right now [] low least h lower ready = tt
-ready-rest I rules v cut sent right now (u ∷ vs) low least h lower (here, (at-u, more)) =
+ready-rest I table v cut sent right now [] low least h lower ready = tt
+ready-rest I table v cut sent right now (u ∷ vs) low least h lower (here, (at-u, more)) =
     let inside = at-u .inside in
     let keep = inRest I v sent .keep in (
       lower (now u) here,
       (
-        rest-again I rules v cut sent right (now u) (omega arith) at-u,
-        ready-rest I rules v cut sent right now vs (suc (now u)) (suc (renumber keep (now u))) (omega arith)
-            (λ w low. rest-order I rules v cut sent right (now u) w (omega arith) (omega arith) low) more,
+        rest-again I table v cut sent right (now u) (omega arith) at-u,
+        ready-rest I table v cut sent right now vs (suc (now u)) (suc (renumber keep (now u))) (omega arith)
+            (λ w low. rest-order I table v cut sent right (now u) w (omega arith) (omega arith) low) more,
       ),
     )
 
@@ -56,13 +55,13 @@ suits-from (v ∷ vs) I J now low same ok (here, (cut, more)) = (
   (
     tt,
     λ sent below. let right = sent-right whole I (now v) sent ok cut below in
-        let rules = ok .rules in
-        let in-rest = rest-stands I rules (now v) cut sent right in
+        let table = ok .table in
+        let in-rest = rest-stands I table (now v) cut sent right in
         suits-from vs (rest I (now v) sent) (rest J (now v) noRows) _ 0 (rest-same I J same (now v) sent noRows)
         (again I ok (inRest I (now v) sent) (nodes I - 1) in-rest)
         (subst (λ keep. Ready (rest I (now v) sent) (λ u. renumber keep (now u)) 0 vs)
         (sym (kept-same I J same (now v) sent noRows))
-        (ready-rest I rules (now v) cut sent right now vs (suc (now v)) 0 (omega arith) (λ w h. omega arith) more)),
+        (ready-rest I table (now v) cut sent right now vs (suc (now v)) 0 (omega arith) (λ w h. omega arith) more)),
   ),
 )
 
@@ -77,24 +76,24 @@ cuts-from : (vs : List ℕ) (I J : Input) (now back : ℕ → ℕ) (low : ℕ) �
 cuts-from [] I J now back low same ok ready leads = refl
 cuts-from (v ∷ vs) I J now back low same ok (here, (cut, more)) leads =
     let inside = cut .inside in
-    let rules = ok .rules in
+    let table = ok .table in
     let sent : ℕ → ℕ → ℕ = λ j x. row (column I j) (now v) x in
     let right : (j x : ℕ) → j < I .c → x < I .s → sent j x ≡ row (column I j) (now v) x = λ j x hj hx. refl in
     let K = inRest I (now v) sent in
     let kept = kept-same I J same (now v) sent noRows in
     let least = suc (renumber (K .keep) (now v)) in
-    let ready = ready-rest I rules (now v) cut sent right now vs (suc (now v)) least (omega arith)
-    (λ w h. renumber-lt (K .keep) (now v) w (rest-own I rules (now v) cut sent right) h) more in
+    let ready = ready-rest I table (now v) cut sent right now vs (suc (now v)) least (omega arith)
+    (λ w h. renumber-lt (K .keep) (now v) w (rest-own I table (now v) cut sent right) h) more in
     let leads-on : (u : ℕ) → least ≤ renumber (K .keep) (now u)
     → renumber (K .keep) (now u) < nodes (rest I (now v) sent)
     → back (restNode J (now v) noRows (renumber (K .keep) (now u))) ≡ u =
-    λ u h k. let (high, low-enough, own) = rest-back I rules (now v) cut sent right (now u) h k in
+    λ u h k. let (high, low-enough, own) = rest-back I table (now v) cut sent right (now u) h k in
     ap (λ f. back (f (renumber (K .keep) (now u)))) (node-same I J same (now v) sent noRows)
     ∙ ap back own
     ∙ leads u (omega arith) low-enough in
     ap₂ _∷_ (leads v here (omega arith))
     (cuts-from vs (rest I (now v) sent) (rest J (now v) noRows) _ _ least (rest-same I J same (now v) sent noRows)
-    (again I ok K (nodes I - 1) (rest-stands I rules (now v) cut sent right))
+    (again I ok K (nodes I - 1) (rest-stands I table (now v) cut sent right))
     (subst (λ keep. Ready (rest I (now v) sent) (λ u. renumber keep (now u)) least vs) (sym kept) ready)
     (subst (λ keep. (u : ℕ) → least ≤ renumber keep (now u) → renumber keep (now u) < nodes (rest I (now v) sent)
     → back (restNode J (now v) noRows (renumber keep (now u))) ≡ u) (sym kept) leads-on))

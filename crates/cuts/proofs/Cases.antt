@@ -6,13 +6,13 @@ use Prim.Native.Nat.{ℕ, _+_, _*_}
 use native.Mathlib.Omega.{arith}
 use lib.ListN.{getD}
 use Rattle.parsimony.specs.Column.{columnOf}
-use Rattle.parsimony.specs.Table.{tips}
-use Rattle.answers.specs.Input.{Input, input}
-use Rattle.cuts.specs.Cut.{part, rest, span, branch, laterCell, laterEntry}
 use Rattle.parsimony.specs.Filled.{listOf}
+use Rattle.parsimony.specs.Table.{tips}
+use Rattle.promises.specs.Input.{Input, input}
+use Rattle.cuts.specs.Cut.{part, rest, span, branch, laterCell, laterEntry}
 use Rattle.cuts.specs.Filled.{cellsBy, entriesBy}
 use Rattle.cuts.specs.Nodes.{cutsAt, nodesCut}
-use Rattle.cuts.specs.Piece.{nodeOf, nodeNew, keptCell, keptEntry}
+use Rattle.cuts.specs.Piece.{pieceNode, nodeNew, keptCell, keptEntry}
 use Rattle.cuts.specs.Plan.{whole, cutAt, columnsAt, Suits}
 
 abbrev none : ℕ
@@ -114,5 +114,5 @@ case-comb-twice = refl
 
 -- and the node that is cut as number 4 there is node 6 of the comb
 case-comb-back : nodesCut (cutAt 2 whole (cutAt 4 whole whole)) comb (λ u. u) ≡ 2 ∷ 6 ∷ []
-unfolding listOf nodeNew nodeOf branch
+unfolding listOf nodeNew pieceNode branch
 case-comb-back = refl

@@ -1,6 +1,5 @@
 -- The part and the rest of a cut stand as trees.
 -- Assumes nothing.
-use mathlib.Core.List.{[]}
 use mathlib.Core.Logic.{inl, inr}
 use mathlib.Core.Path.{_≡_, refl, ap, sym, _∙_, subst}
 use Prim.Native.Nat.{ℕ, suc, _-_, _≤_, _<_}
@@ -16,23 +15,22 @@ use Rattle.parsimony.proofs.Order.{by-lt, by-eq, pick-true, pick-false, at-othe
 use Rattle.parsimony.proofs.RowLaws.{row-tip}
 use Rattle.parsimony.proofs.ShapeLaws.{rules-rooted}
 use Rattle.parsimony.proofs.TreeLaws.{parent-has, descend-meets}
-use Rattle.answers.specs.CallRules.{tableRules}
-use Rattle.answers.specs.Input.{Input, nodes, nodeIn, column}
-use Rattle.answers.specs.Rules.{All}
-use Rattle.answers.proofs.RootLaws.{rules-sound, rules-node}
-use Rattle.cuts.specs.Cut.{CutAt, marked, branch, inPart, inRest}
+use Rattle.promises.specs.CallRules.{Allowed}
+use Rattle.promises.specs.Input.{Input, nodes, nodeIn, column}
+use Rattle.promises.proofs.TableLaws.{table-sound, table-node}
+use Rattle.cuts.specs.Cut.{CutAt, passMark, branch, inPart, inRest}
 use Rattle.cuts.specs.Piece.{Choice}
 use Rattle.cuts.proofs.KeptLaws.{Stands}
 
-marked-own : (v mark : ℕ) → marked v v mark ≡ 1
-unfolding marked
+marked-own : (v mark : ℕ) → passMark v v mark ≡ 1
+unfolding passMark
 marked-own v mark = pick-true 1 mark (eq-eqb v v refl)
 
-marked-other : (v u mark : ℕ) → (u ≡ v → ⊥) → marked v u mark ≡ mark
-unfolding marked
+marked-other : (v u mark : ℕ) → (u ≡ v → ⊥) → passMark v u mark ≡ mark
+unfolding passMark
 marked-other v u mark ne = pick-false 1 mark (ne-eqb u v ne)
 
-module _ (I : Input) (rules : All (tableRules I [])) (v : ℕ) (cut : CutAt I v) where
+module _ (I : Input) (table : Allowed I) (v : ℕ) (cut : CutAt I v) where
   abbrev n : ℕ
   n = nodes I
 
@@ -41,18 +39,18 @@ module _ (I : Input) (rules : All (tableRules I [])) (v : ℕ) (cut : CutAt I v)
 
   tree : Rooted last (kidsAt (I .left) (I .right))
   tree =
-      let some = rules-node I rules in
+      let some = table-node I table in
       let whole : suc last ≡ n = omega arith in
-      rules-rooted last (nodeIn I) (subst (λ k. TreeRules k (nodeIn I)) (sym whole) (rules .1 .0))
+      rules-rooted last (nodeIn I) (subst (λ k. TreeRules k (nodeIn I)) (sym whole) (table .legal .tree))
 
-  down : Descent last (kidsAt (I .left) (I .right)) (marked v) (at v 1 last) (branch I v)
+  down : Descent last (kidsAt (I .left) (I .right)) (passMark v) (at v 1 last) (branch I v)
   unfolding branch
-  down = descend-meets last (kidsAt (I .left) (I .right)) tree (marked v) (at v 1 last)
+  down = descend-meets last (kidsAt (I .left) (I .right)) tree (passMark v) (at v 1 last)
 
   -- the mark of a child under a marked parent
   branch-child : (p u : ℕ) → p ≤ last → Has u (kidsOf (nodeIn I p)) → branch I v p ≡ 1 → branch I v u ≡ 1
   branch-child p u h c marked-parent =
-      by-eq u v (λ e. down .edge h c ∙ ap (λ w. marked v w (branch I v p)) e ∙ marked-own v (branch I v p))
+      by-eq u v (λ e. down .edge h c ∙ ap (λ w. passMark v w (branch I v p)) e ∙ marked-own v (branch I v p))
       (λ ne. down .edge h c ∙ marked-other v u (branch I v p) ne ∙ marked-parent)
 
   -- and under one that is not marked
@@ -83,11 +81,8 @@ module _ (I : Input) (rules : All (tableRules I [])) (v : ℕ) (cut : CutAt I v)
           let (most, least) = higher p below hp in
           by-eq u v
           (λ e. let one = ap (branch I v) e ∙ branch-own in (omega arith, λ k. omega arith))
-          (λ ne. let same = branch-free p u hp c ne in (
-            omega arith,
-            λ k. let lower = least (sym same ∙ k) in omega
-                arith,
-          )))
+          (λ ne. let same = branch-free p u hp c ne in
+          (omega arith, λ k. let lower = least (sym same ∙ k) in omega arith)))
           (λ top. let e : branch I v u ≡ 0 = ap (branch I v) (omega arith) ∙ branch-root in
           (omega arith, λ k. absurd (omega arith)))
 
@@ -95,7 +90,7 @@ module _ (I : Input) (rules : All (tableRules I [])) (v : ℕ) (cut : CutAt I v)
   tip-row : (j u k x : ℕ) → j < I .c → u < n → nodeIn I u ≡ leaf handed k → column I j .entry u x ≡ row (column I j) u x
   unfolding columnOf
   tip-row j u k x hj h e =
-      sym (row-tip (column I j) (rules-sound I rules j hj .tree) u x (omega arith) (ap kidsOf e))
+      sym (row-tip (column I j) (table-sound I table j hj .tree) u x (omega arith) (ap kidsOf e))
 
   -- The part stands as a tree with root v.
   pub part-stands : Stands I (inPart I v) v
@@ -189,14 +184,15 @@ module _ (I : Input) (rules : All (tableRules I [])) (v : ℕ) (cut : CutAt I v)
         kinds : {r : ℕ} → leaf symbol r ≡ leaf handed 0 → ⊥
         kinds e = let z : _≡_ {A = ℕ} 0 1 = cc in omega arith
 
-        rows : (j u k x : ℕ) → j < I .c → u < n → K .node u ≡ leaf handed k → x < I .s → K .entry j u x ≡ row (column
-            I j) u x
+        rows : (j u k x : ℕ) → j < I .c → u < n → K .node u ≡ leaf handed k → x < I .s
+            → K .entry j u x ≡ row (column I j) u x
         rows j u k x hj h e hx =
             by-eq u v
-            (λ p. pick-true (up j x) (column I j .entry u x) (eq-eqb u v p) ∙ sent j x hj hx ∙ ap (λ w. row (column I
-            j) w x) (sym p))
-            (λ ne. pick-false (up j x) (column I j .entry u x) (ne-eqb u v ne) ∙ tip-row j u k x hj h (sym
-            (node-other u ne) ∙ e))
+            (λ p. pick-true (up j x) (column I j .entry u x) (eq-eqb u v p)
+            ∙ sent j x hj hx
+            ∙ ap (λ w. row (column I j) w x) (sym p))
+            (λ ne. pick-false (up j x) (column I j .entry u x) (ne-eqb u v ne)
+            ∙ tip-row j u k x hj h (sym (node-other u ne) ∙ e))
 
     -- v is kept in the rest
     pub rest-own : K .keep v ≡ 1

@@ -6,10 +6,10 @@ use Prim.Native.Nat.{ℕ}
 use lib.ListN.{getD}
 use Rattle.parsimony.specs.Column.{columnOf}
 use Rattle.parsimony.specs.Examples.{Example, example2b, example8part, example8rest}
-use Rattle.parsimony.specs.Table.{tips}
-use Rattle.answers.specs.Input.{Input, input}
-use Rattle.cuts.specs.Cut.{part, rest, span, branch, laterCell, laterEntry}
 use Rattle.parsimony.specs.Filled.{listOf}
+use Rattle.parsimony.specs.Table.{tips}
+use Rattle.promises.specs.Input.{Input, input}
+use Rattle.cuts.specs.Cut.{part, rest, span, branch, laterCell, laterEntry}
 use Rattle.cuts.specs.Filled.{cellsBy, entriesBy}
 use Rattle.cuts.specs.Piece.{nodeNew, keptCell, keptEntry}
 

@@ -1,12 +1,12 @@
 -- What stands where in cells and handed entries that are filled by a rule.
 -- Assumes nothing.
 use mathlib.Core.Path.{_≡_, ap, sym, _∙_}
-use Prim.Native.Nat.{ℕ, suc, _+_, _*_, _-_, _≤_, _<_}
+use Prim.Native.Nat.{ℕ, suc, _+_, _*_, _≤_, _<_}
 use native.Mathlib.Nat.{suc-mul, mul-assoc, add-mul, mul-le-mul-right}
 use native.Mathlib.Omega.{arith}
 use lib.ListN.{length, getD}
-use Rattle.parsimony.proofs.FilledLaws.{list-long, list-at, joined-long, joined-at}
 use Rattle.parsimony.specs.Filled.{listOf, joined}
+use Rattle.parsimony.proofs.FilledLaws.{list-long, list-at, joined-long, joined-at}
 use Rattle.cuts.specs.Filled.{cellsBy, entriesBy}
 
 module _ (t c : ℕ) (cell : ℕ → ℕ → ℕ) where
@@ -28,8 +28,8 @@ module _ (c h s : ℕ) (entry : ℕ → ℕ → ℕ → ℕ) where
   entries-long =
       joined-long c (h * s) (λ j. joined h (λ k. listOf s (entry j k))) (λ j i. column-long j) ∙ sym (mul-assoc c h s)
 
-  pub entries-at : (j k x : ℕ) → j < c → k < h → x < s → getD (entriesBy c h s entry) ((j * h + k) * s + x) 0 ≡ entry
-      j k x
+  pub entries-at : (j k x : ℕ) → j < c → k < h → x < s
+      → getD (entriesBy c h s entry) ((j * h + k) * s + x) 0 ≡ entry j k x
   unfolding entriesBy
   entries-at j k x hj hk hx =
       let spread : (j * h + k) * s ≡ j * h * s + k * s = add-mul (j * h) k s in

@@ -1,6 +1,5 @@
 -- What is kept of a table: its nodes stand as a tree, and its matrix rows and handed tips are kept once or not at all.
 -- Assumes nothing.
-use mathlib.Core.List.{[]}
 use mathlib.Core.Path.{_≡_, refl, ap, ap₂, sym, _∙_}
 use Prim.Native.Nat.{ℕ, _*_, _-_, _≤_, _<_}
 use native.Mathlib.Nat.{one-mul, zero-mul}
@@ -26,11 +25,10 @@ use Rattle.parsimony.proofs.Order.{by-lt, by-eq, at-same, at-other}
 use Rattle.parsimony.proofs.ShapeLaws.{row-within}
 use Rattle.parsimony.proofs.Sums.{sum-le, sum-before}
 use Rattle.parsimony.proofs.TipLaws.{sum-ones, names-own}
-use Rattle.answers.specs.CallRules.{tableRules}
-use Rattle.answers.specs.Input.{Input, nodes, nodeIn, tipsIn, column}
-use Rattle.answers.specs.Rules.{All}
+use Rattle.promises.specs.CallRules.{Allowed}
+use Rattle.promises.specs.Input.{Input, nodes, nodeIn, tipsIn, column}
 use Rattle.cuts.specs.Numbering.{renumber}
-use Rattle.cuts.specs.Piece.{Choice, keptRow, keptHanded, nodeOf, keptNodes}
+use Rattle.cuts.specs.Piece.{Choice, keptRow, keptHanded, pieceNode, keptNodes}
 use Rattle.cuts.proofs.NumberLaws.{Marks, renumber-lt, original-is, original-own}
 
 -- The kept nodes stand as a tree with root top: with an inner node its children are kept; each kept node but top is a
@@ -44,8 +42,8 @@ pub record Stands (I : Input) (K : Choice) (top : ℕ) : Type 0 where
   pub kids : (u a b : ℕ) → u < nodes I → K .keep u ≡ 1 → K .node u ≡ inner a b
       → (nodeIn I u ≡ inner a b) × (K .keep a ≡ 1) × (K .keep b ≡ 1)
   pub tips : (u r : ℕ) → u < nodes I → K .keep u ≡ 1 → K .node u ≡ leaf symbol r → nodeIn I u ≡ leaf symbol r
-  pub parent : (u : ℕ) → u < top → K .keep u ≡ 1 → (p : ℕ) × (p < nodes I) × (K .keep p ≡ 1) × Has u (kidsOf (K .node
-      p))
+  pub parent : (u : ℕ) → u < top → K .keep u ≡ 1
+      → (p : ℕ) × (p < nodes I) × (K .keep p ≡ 1) × Has u (kidsOf (K .node p))
   pub rows : (j u k x : ℕ) → j < I .c → u < nodes I → K .keep u ≡ 1 → K .node u ≡ leaf handed k → x < I .s
       → K .entry j u x ≡ row (column I j) u x
 
@@ -63,10 +61,10 @@ keep-le k x y most less =
 -- two places that are met together
 pub at-both : (u m a b : ℕ) → (u ≡ a → m ≡ b) → (m ≡ b → u ≡ a) → at u 1 a ≡ at m 1 b
 at-both u m a b f g =
-    by-eq u a (λ e. at-same u 1 a e ∙ sym (at-same m 1 b (f e))) (λ ne. at-other u 1 a ne ∙ sym (at-other m 1 b (λ e.
-    ne (g e))))
+    by-eq u a (λ e. at-same u 1 a e ∙ sym (at-same m 1 b (f e)))
+    (λ ne. at-other u 1 a ne ∙ sym (at-other m 1 b (λ e. ne (g e))))
 
-module _ (I : Input) (rules : All (tableRules I [])) (K : Choice) (top : ℕ) (stands : Stands I K top) where
+module _ (I : Input) (table : Allowed I) (K : Choice) (top : ℕ) (stands : Stands I K top) where
   abbrev n : ℕ
   n = nodes I
 
@@ -74,18 +72,18 @@ module _ (I : Input) (rules : All (tableRules I [])) (K : Choice) (top : ℕ) (s
   t = tipsIn symbol I
 
   abbrev tree : TreeRules n (nodeIn I)
-  tree = rules .1 .0
+  tree = table .legal .tree
 
   -- the original of a node of the piece
-  pub from : (i : ℕ) → i < keptNodes I K → (nodeOf I K i < n) × (K .keep (nodeOf I K i) ≡ 1) × (renumber (K .keep)
-      (nodeOf I K i) ≡ i)
-  unfolding nodeOf
+  pub from : (i : ℕ) → i < keptNodes I K
+      → (pieceNode I K i < n) × (K .keep (pieceNode I K i) ≡ 1) × (renumber (K .keep) (pieceNode I K i) ≡ i)
+  unfolding pieceNode
   from i h = original-is (K .keep) n i (stands .marks) h
 
   -- a kept node is a node of the piece
   pub piece-own : (u : ℕ) → u < n → K .keep u ≡ 1
-      → (renumber (K .keep) u < keptNodes I K) × (nodeOf I K (renumber (K .keep) u) ≡ u)
-  unfolding nodeOf
+      → (renumber (K .keep) u < keptNodes I K) × (pieceNode I K (renumber (K .keep) u) ≡ u)
+  unfolding pieceNode
   piece-own u h k = (renumber-lt (K .keep) u n k h, original-own (K .keep) n u (stands .marks) h k)
 
   -- it has a node
@@ -93,13 +91,13 @@ module _ (I : Input) (rules : All (tableRules I [])) (K : Choice) (top : ℕ) (s
   piece-some = let l = renumber-lt (K .keep) top n (stands .kept) (stands .inside) in omega arith
 
   -- its last node is the one that stands on top
-  pub piece-top : nodeOf I K (keptNodes I K - 1) ≡ top
+  pub piece-top : pieceNode I K (keptNodes I K - 1) ≡ top
   piece-top =
       let some = piece-some in
       let (inside, kept, number) = from (keptNodes I K - 1) (omega arith) in
-      let high = stands .most (nodeOf I K (keptNodes I K - 1)) inside kept in
-      by-lt (nodeOf I K (keptNodes I K - 1)) top
-      (λ low. absurd (let a = renumber-lt (K .keep) (nodeOf I K (keptNodes I K - 1)) top kept low in
+      let high = stands .most (pieceNode I K (keptNodes I K - 1)) inside kept in
+      by-lt (pieceNode I K (keptNodes I K - 1)) top
+      (λ low. absurd (let a = renumber-lt (K .keep) (pieceNode I K (keptNodes I K - 1)) top kept low in
       let b = renumber-lt (K .keep) top n (stands .kept) (stands .inside) in omega arith))
       (λ over. omega arith)
 
@@ -114,11 +112,11 @@ module _ (I : Input) (rules : All (tableRules I [])) (K : Choice) (top : ℕ) (s
             omega arith;
       }
     where
-      own : (u r : ℕ) → u < n → K .keep u ≡ 1 → (x : Node) → K .node u ≡ x → names symbol r x ≤ names symbol r
-          (nodeIn I u)
+      own : (u r : ℕ) → u < n → K .keep u ≡ 1 → (x : Node) → K .node u ≡ x
+          → names symbol r x ≤ names symbol r (nodeIn I u)
       own u r h k (leaf symbol q) e =
-          let same : names symbol r (nodeIn I u) ≡ names symbol r (leaf symbol q) = ap (names symbol r) (stands .tips
-          u q h k e) in
+          let same : names symbol r (nodeIn I u) ≡ names symbol r (leaf symbol q) =
+          ap (names symbol r) (stands .tips u q h k e) in
           omega arith
       own u r h k (leaf handed q) e = omega arith
       own u r h k (inner a b) e = omega arith

@@ -3,7 +3,6 @@ pub mod Cases
 pub mod Example8
 pub mod NumberLaws
 pub mod FilledLaws
-pub mod WriteLaws
 pub mod SitsLaws
 pub mod KeptLaws
 pub mod PieceNodes
@@ -13,7 +12,6 @@ pub mod PieceRules
 pub mod CutLaws
 pub mod SpanLaws
 pub mod CallLaws
-pub mod CallsDone
 pub mod CallsMade
 pub mod PlanLaws
 pub mod StartLaws

@@ -1,6 +1,6 @@
 -- What stands at each node of a piece, and how many tips of each kind it has.
 -- Assumes nothing.
-use mathlib.Core.List.{List, []}
+use mathlib.Core.List.{List}
 use mathlib.Core.Logic.{inl}
 use mathlib.Core.Path.{_≡_, refl, ap, sym, _∙_, subst}
 use Prim.Native.Nat.{ℕ, _*_, _<_}
@@ -22,12 +22,12 @@ use Rattle.parsimony.specs.Table.{
   TreeRules,
 }
 use Rattle.parsimony.specs.Tree.{Has}
+use Rattle.parsimony.proofs.FilledLaws.{list-long, list-at}
 use Rattle.parsimony.proofs.NodeLaws.{node-symbol, node-handed, node-inner}
 use Rattle.parsimony.proofs.Sums.{sum-same, sum-swap, sum-scale}
 use Rattle.parsimony.proofs.TipLaws.{rows-in}
-use Rattle.answers.specs.CallRules.{tableRules}
-use Rattle.answers.specs.Input.{Input, nodes, nodeIn, tipsIn}
-use Rattle.answers.specs.Rules.{All}
+use Rattle.promises.specs.CallRules.{Allowed}
+use Rattle.promises.specs.Input.{Input, nodes, nodeIn, tipsIn}
 use Rattle.cuts.specs.Numbering.{renumber}
 use Rattle.cuts.specs.Piece.{
   Choice,
@@ -36,14 +36,13 @@ use Rattle.cuts.specs.Piece.{
   renumbered,
   leftEntry,
   rightEntry,
-  nodeOf,
+  pieceNode,
   nodeNew,
   keptNodes,
   keptRows,
   keptTips,
   piece,
 }
-use Rattle.parsimony.proofs.FilledLaws.{list-long, list-at}
 use Rattle.cuts.proofs.NumberLaws.{renumber-mono, renumber-most, sum-kept}
 use Rattle.cuts.proofs.KeptLaws.{Stands, keep-same, from, row-marks, row-kept, tips-few}
 
@@ -54,14 +53,13 @@ Small (leaf handed k) = Unit {0}
 Small (inner a b) = a < 65535
 
 -- a node is read from its entries
-node-code : (left right : List ℕ) (i : ℕ) (x : Node) → Small x → getD left i 0 ≡ leftEntry x → getD right i 0 ≡
-    rightEntry x
-    → nodeAt left right i ≡ x
+node-code : (left right : List ℕ) (i : ℕ) (x : Node) → Small x → getD left i 0 ≡ leftEntry x
+    → getD right i 0 ≡ rightEntry x → nodeAt left right i ≡ x
 node-code left right i (leaf symbol r) small e f = node-symbol left right i r small e f
 node-code left right i (leaf handed k) small e f = node-handed left right i k e f
 node-code left right i (inner a b) small e f = node-inner left right i a b small e f
 
-module _ (I : Input) (rules : All (tableRules I [])) (K : Choice) (top : ℕ) (stands : Stands I K top) where
+module _ (I : Input) (table : Allowed I) (K : Choice) (top : ℕ) (stands : Stands I K top) where
   abbrev n : ℕ
   n = nodes I
 
@@ -69,7 +67,7 @@ module _ (I : Input) (rules : All (tableRules I [])) (K : Choice) (top : ℕ) (s
   t = tipsIn symbol I
 
   abbrev tree : TreeRules n (nodeIn I)
-  tree = rules .1 .0
+  tree = table .legal .tree
 
   abbrev m : ℕ
   m = keptNodes I K
@@ -77,11 +75,11 @@ module _ (I : Input) (rules : All (tableRules I [])) (K : Choice) (top : ℕ) (s
   -- what stands at a node of the piece can be read from its entries
   new-small : (u : ℕ) → u < n → K .keep u ≡ 1 → (x : Node) → K .node u ≡ x → Small (renumbered I K u x)
   new-small u h k (leaf symbol r) e =
-      let low = row-kept I rules K top stands u r h k e .0 in
-      let most = renumber-most (keptRow I K) t (row-marks I rules K top stands) in
+      let low = row-kept I table K top stands u r h k e .0 in
+      let most = renumber-most (keptRow I K) t (row-marks I table K top stands) in
       let mono = renumber-mono (keptRow I K) r t (omega arith) in
-      let many = rules .0 .most in
-      let few = tips-few I rules K top stands in
+      let many = table .legal .size .most in
+      let few = tips-few I table K top stands in
       omega arith
   new-small u h k (leaf handed r) e = tt
   new-small u h k (inner a b) e =
@@ -89,7 +87,7 @@ module _ (I : Input) (rules : All (tableRules I [])) (K : Choice) (top : ℕ) (s
       let below = tree .below {v = u} {u = a} h (subst (λ x. Has a (kidsOf x)) (sym same) (inl refl)) in
       let mono = renumber-mono (K .keep) a n (omega arith) in
       let most = renumber-most (K .keep) n (stands .marks) in
-      let many = rules .0 .most in
+      let many = table .legal .size .most in
       omega arith
 
   pub piece-nodes : nodes (piece I K) ≡ m
@@ -99,15 +97,15 @@ module _ (I : Input) (rules : All (tableRules I [])) (K : Choice) (top : ℕ) (s
   pub piece-node : (i : ℕ) → i < m → nodeIn (piece I K) i ≡ nodeNew I K i
   unfolding nodeNew
   piece-node i h =
-      let (inside, kept, same) = from I rules K top stands i h in
+      let (inside, kept, same) = from I table K top stands i h in
       node-code (piece I K .left) (piece I K .right) i (nodeNew I K i)
-      (new-small (nodeOf I K i) inside kept (K .node (nodeOf I K i)) refl)
+      (new-small (pieceNode I K i) inside kept (K .node (pieceNode I K i)) refl)
       (list-at m (λ i. leftEntry (nodeNew I K i)) i h) (list-at m (λ i. rightEntry (nodeNew I K i)) i h)
 
   -- a sum over the nodes of the piece is one over the kept nodes
   pub sum-piece : (f : Node → ℕ)
       → sum (λ i. f (nodeIn (piece I K) i)) m ≡ sum (λ u. K .keep u * f (renumbered I K u (K .node u))) n
-  unfolding nodeNew nodeOf
+  unfolding nodeNew pieceNode
   sum-piece f =
       sum-same _ (λ i. f (nodeNew I K i)) m (λ i h. ap f (piece-node i h))
       ∙ sum-kept (K .keep) (λ u. f (renumbered I K u (K .node u))) n (stands .marks)
@@ -134,6 +132,6 @@ module _ (I : Input) (rules : All (tableRules I [])) (K : Choice) (top : ℕ) (s
   piece-symbol =
       tips-new symbol
       ∙ sum-same _ _ n (λ u h. keep-same (K .keep u) _ _ (stands .marks .most u h)
-      (λ k. sym (rows-in symbol t (K .node u) (λ r e. row-kept I rules K top stands u r h k e .0)))
+      (λ k. sym (rows-in symbol t (K .node u) (λ r e. row-kept I table K top stands u r h k e .0)))
       ∙ sym (sum-scale (K .keep u) (λ r. names symbol r (K .node u)) t))
       ∙ sym (sum-swap (λ r u. K .keep u * names symbol r (K .node u)) t n)

@@ -1,27 +1,26 @@
 -- By induction over plans: what is put together is what the definitions by rows give on the whole table.
 -- Assumes nothing.
-use mathlib.Core.Logic.{_⊎_, ⊎-elim}
+use mathlib.Core.Logic.{⊎-elim}
 use mathlib.Core.Path.{_≡_, refl, ap, sym, _∙_, subst}
 use Prim.Native.Nat.{ℕ, _+_, _-_, _≤_, _<_}
 use native.Mathlib.Nat.{zero-add}
 use native.Mathlib.Omega.{arith}
 use Rattle.parsimony.specs.Column.{Column, columnOf}
 use Rattle.parsimony.specs.Label.{labelFrom, freeStart}
-use Rattle.parsimony.specs.Least.{lowest}
 use Rattle.parsimony.specs.NodeSet.{setsFrom, freeSet}
 use Rattle.parsimony.specs.Row.{row, score}
+use Rattle.parsimony.specs.Tie.{ruleInUse}
 use Rattle.parsimony.proofs.Order.{by-lt}
-use Rattle.answers.specs.Input.{Input, nodes, column}
-use Rattle.answers.specs.Starts.{StateStart, SetStart}
-use Rattle.answers.specs.declared.Start.{Start}
-use Rattle.answers.specs.declared.Start.the-variants.{Given}
-use Rattle.answers.proofs.RootLaws.{rules-sound, rules-node}
-use Rattle.roots.specs.Starts.{stateOf}
-use Rattle.works.proofs.Meaning.{set-of}
+use Rattle.promises.specs.Input.{Input, nodes, column}
+use Rattle.promises.specs.Starts.{StateStart, SetStart, startOr, labelsFor, setsFor}
+use Rattle.promises.specs.declared.Start.{Start}
+use Rattle.promises.specs.declared.Start.the-variants.{Given}
+use Rattle.promises.proofs.Meaning.{set-of}
+use Rattle.promises.proofs.TableLaws.{table-sound, table-node}
 use Rattle.cuts.specs.Call.{LabelCall, SetsCall, Answers}
 use Rattle.cuts.specs.Cut.{CutAt, part, rest, partNode, restNode, inPart, inRest, span}
 use Rattle.cuts.specs.Cuttable.{Cuttable}
-use Rattle.cuts.specs.Piece.{Choice, nodeOf}
+use Rattle.cuts.specs.Piece.{Choice, pieceNode}
 use Rattle.cuts.specs.Plan.{Plan, whole, cutAt, columnsAt, SendsUp, ScoresBy, Comes, LabelsBy, SetsBy, Everywhere}
 use Rattle.cuts.proofs.CallLaws.{rules-answer, hand-up-row, score-of, labels-of, sets-of}
 use Rattle.cuts.proofs.CallsMade.{labels-made, sets-made}
@@ -41,34 +40,32 @@ later m j h = omega arith
 -- The rows sent up are the table's rows at its root.
 pub sends-right : (plan : Plan) (I : Input) (up : ℕ → ℕ → ℕ) → Cuttable I → SendsUp plan I up
     → (j x : ℕ) → j < I .c → x < I .s → up j x ≡ row (column I j) (nodes I - 1) x
-sends-right whole I up ok s j x hj hx = hand-up-row I (ok .rules) j hj (up j) (s j hj) x hx
+sends-right whole I up ok s j x hj hx = hand-up-row I (ok .table) j hj (up j) (s j hj) x hx
 sends-right (cutAt v below above) I up ok (cut, (sent, (low, high))) j x hj hx =
-    let in-part = part-stands I (ok .rules) v cut in
+    let in-part = part-stands I (ok .table) v cut in
     let right : (j x : ℕ) → j < I .c → x < I .s → sent j x ≡ row (column I j) v x =
     λ j x hj hx. sends-right below (part I v) sent (again I ok (inPart I v) v in-part) low j x hj hx
     ∙ top-row I ok (inPart I v) v in-part j x hj hx in
-    let in-rest = rest-stands I (ok .rules) v cut sent right in
+    let in-rest = rest-stands I (ok .table) v cut sent right in
     sends-right above (rest I v sent) up (again I ok (inRest I v sent) (nodes I - 1) in-rest) high j x hj hx
     ∙ top-row I ok (inRest I v sent) (nodes I - 1) in-rest j x hj hx
 sends-right (columnsAt m first second) I up ok (within, (one, two)) j x hj hx =
-    let top : nodes I - 1 < nodes I = let some = rules-node I (ok .rules) in omega arith in
+    let top : nodes I - 1 < nodes I = let some = table-node I (ok .table) in omega arith in
     by-lt j m
     (λ low. sends-right first (span I 0 m) up (span-cuttable I ok 0 m (omega arith)) one j x low hx
     ∙ span-row I ok 0 m (omega arith) j (nodes I - 1) x low top hx
     ∙ ap (λ k. row (column I k) (nodes I - 1) x) (zero-add j))
     (λ high. ap (λ k. up k x) (sym (later m j high))
     ∙ sends-right second (span I m (I .c - m)) (λ j. up (m + j)) (span-cuttable I ok m (I .c - m) (omega arith)) two
-    (j - m) x
-    (omega arith) hx
+    (j - m) x (omega arith) hx
     ∙ span-row I ok m (I .c - m) (omega arith) (j - m) (nodes I - 1) x (omega arith) top hx
     ∙ ap (λ k. row (column I k) (nodes I - 1) x) (later m j high))
 
 -- What a part sends up is the table's row at the node that was cut.
-pub sent-right : (below : Plan) (I : Input) (v : ℕ) (sent : ℕ → ℕ → ℕ) → Cuttable I → CutAt I v → SendsUp below (part
-    I v) sent
-    → (j x : ℕ) → j < I .c → x < I .s → sent j x ≡ row (column I j) v x
+pub sent-right : (below : Plan) (I : Input) (v : ℕ) (sent : ℕ → ℕ → ℕ) → Cuttable I → CutAt I v
+    → SendsUp below (part I v) sent → (j x : ℕ) → j < I .c → x < I .s → sent j x ≡ row (column I j) v x
 sent-right below I v sent ok cut low j x hj hx =
-    let in-part = part-stands I (ok .rules) v cut in
+    let in-part = part-stands I (ok .table) v cut in
     sends-right below (part I v) sent (again I ok (inPart I v) v in-part) low j x hj hx
     ∙ top-row I ok (inPart I v) v in-part j x hj hx
 
@@ -78,22 +75,22 @@ module _ (I : Input) (ok : Cuttable I) (v : ℕ) (cut : CutAt I v) (sent : ℕ �
   K = inRest I v sent
 
   in-rest : Stands I K (nodes I - 1)
-  in-rest = rest-stands I (ok .rules) v cut sent right
+  in-rest = rest-stands I (ok .table) v cut sent right
 
-  peak : nodeOf I K (nodes (rest I v sent) - 1) ≡ nodes I - 1
+  peak : pieceNode I K (nodes (rest I v sent) - 1) ≡ nodes I - 1
   peak =
-      ap (λ k. nodeOf I K (k - 1)) (piece-nodes I (ok .rules) K (nodes I - 1) in-rest)
-      ∙ piece-top I (ok .rules) K (nodes I - 1) in-rest
+      ap (λ k. pieceNode I K (k - 1)) (piece-nodes I (ok .table) K (nodes I - 1) in-rest)
+      ∙ piece-top I (ok .table) K (nodes I - 1) in-rest
 
   -- the rest's score, free starts and root's row are the table's
   pub rest-top : SameTop (column (rest I v sent) j) (column I j)
   unfolding columnOf
   rest-top =
-      let sound = rules-sound I (ok .rules) j hj in
-      sits-top (column (rest I v sent) j) (column I j) (nodeOf I K) (piece-sits I (ok .rules) K (nodes I - 1) in-rest
-      j hj)
-      (rules-sound (rest I v sent) (again I ok K (nodes I - 1) in-rest .rules) j hj .tree) (sound .tree) (sound
-      .states) peak
+      let sound = table-sound I (ok .table) j hj in
+      sits-top (column (rest I v sent) j) (column I j) (pieceNode I K)
+      (piece-sits I (ok .table) K (nodes I - 1) in-rest j hj)
+      (table-sound (rest I v sent) (again I ok K (nodes I - 1) in-rest .table) j hj .tree)
+      (sound .tree) (sound .states) peak
 
 -- column i of a range that starts at first is column j of the table
 module _ (I : Input) (ok : Cuttable I) (first count : ℕ) (within : first + count ≤ I .c) (i j : ℕ) (low : i < count)
@@ -102,34 +99,34 @@ module _ (I : Input) (ok : Cuttable I) (first count : ℕ) (within : first + cou
   pub span-top : SameTop (column (span I first count) i) (column I j)
   unfolding columnOf
   span-top =
-      let sound = rules-sound I (ok .rules) (first + i) (omega arith) in
+      let sound = table-sound I (ok .table) (first + i) (omega arith) in
       subst (λ k. SameTop (column (span I first count) i) (column I k)) same
-      (sits-top (column (span I first count) i) (column I (first + i)) (λ v. v) (span-sits I ok first count within i
-      low)
-      (rules-sound (span I first count) (span-rules I ok first count within) i low .tree) (sound .tree) (sound
-      .states) refl)
+      (sits-top (column (span I first count) i) (column I (first + i)) (λ v. v)
+      (span-sits I ok first count within i low)
+      (table-sound (span I first count) (span-rules I ok first count within) i low .tree)
+      (sound .tree) (sound .states) refl)
 
   -- and so is the work from the root down
   span-down : (F : Column → ℕ → ℕ → ℕ) → Downward F → (x v : ℕ) → v < nodes I
       → F (column (span I first count) i) x v ≡ F (column I j) x v
   unfolding columnOf
   span-down F down x v h =
-      let sound = rules-sound I (ok .rules) (first + i) (omega arith) in
+      let sound = table-sound I (ok .table) (first + i) (omega arith) in
       let A = column (span I first count) i in
       let B = column I (first + i) in
       ap (λ z. F A z v) (sym (down .root B (sound .tree) x))
       ∙ sym (down .along A B (λ v. v) (span-sits I ok first count within i low)
-      (rules-sound (span I first count) (span-rules I ok first count within) i low .tree) (sound .tree) (sound
-      .states) x v (omega arith))
+      (table-sound (span I first count) (span-rules I ok first count within) i low .tree)
+      (sound .tree) (sound .states) x v (omega arith))
       ∙ ap (λ k. F (column I k) x v) same
 
 -- The scores put together are the table's.
 pub scores-right : (plan : Plan) (I : Input) (S : ℕ → ℕ) → Cuttable I → ScoresBy plan I S
     → (j : ℕ) → j < I .c → S j ≡ score (column I j)
-scores-right whole I S ok call j hj = score-of I (ok .rules) j hj S call
+scores-right whole I S ok call j hj = score-of I (ok .table) j hj S call
 scores-right (cutAt v below above) I S ok (cut, (sent, (low, high))) j hj =
     let right = sent-right below I v sent ok cut low in
-    let in-rest = rest-stands I (ok .rules) v cut sent right in
+    let in-rest = rest-stands I (ok .table) v cut sent right in
     scores-right above (rest I v sent) S (again I ok (inRest I v sent) (nodes I - 1) in-rest) high j hj
     ∙ rest-top I ok v cut sent right j hj .score
 scores-right (columnsAt m first second) I S ok (within, (one, two)) j hj =
@@ -143,27 +140,25 @@ scores-right (columnsAt m first second) I S ok (within, (one, two)) j hj =
 
 -- Work from the root down by calls: labelling or the sets, with the starts that its calls take.
 pub record Work (F : Column → ℕ → ℕ → ℕ) (free : Column → ℕ) (Call : Input → ℕ → Start → (ℕ → ℕ) → Type 0)
-    (Allowed : Input → ℕ → Start → Type 0) : Type 1 where
+    (May : Input → ℕ → Start → Type 0) : Type 1 where
   pub down : Downward F
-  pub call : (I : Input) → Cuttable I → (j : ℕ) → j < I .c → (start : Start) (f : ℕ → ℕ) → Allowed I j start → Call I j
-      start f
-      → (v : ℕ) → v < nodes I → f v ≡ F (column I j) (stateOf start (free (column I j))) v
-  pub made : (I : Input) → Cuttable I → (j : ℕ) → j < I .c → (start : Start) (f : ℕ → ℕ) → Allowed I j start
-      → ((v : ℕ) → v < nodes I → f v ≡ F (column I j) (stateOf start (free (column I j))) v) → Call I j start f
+  pub call : (I : Input) → Cuttable I → (j : ℕ) → j < I .c → (start : Start) (f : ℕ → ℕ) → May I j start
+      → Call I j start f → (v : ℕ) → v < nodes I → f v ≡ F (column I j) (startOr start (free (column I j))) v
+  pub made : (I : Input) → Cuttable I → (j : ℕ) → j < I .c → (start : Start) (f : ℕ → ℕ) → May I j start
+      → ((v : ℕ) → v < nodes I → f v ≡ F (column I j) (startOr start (free (column I j))) v) → Call I j start f
   pub same : (A B : Column) → SameTop A B → free A ≡ free B
-  pub moves : (A B : Input) (j k : ℕ) → A .s ≡ B .s → SameTop (column A j) (column B k) → (start : Start) → Allowed B k
-      start
-      → Allowed A j start
-  pub lowers : (I : Input) → Cuttable I → (j : ℕ) → j < I .c → (start : Start) → Allowed I j start → (v : ℕ) → CutAt I v
-      → Allowed (part I v) j (Given (F (column I j) (stateOf start (free (column I j))) v))
+  pub moves : (A B : Input) (j k : ℕ) → A .s ≡ B .s → SameTop (column A j) (column B k) → (start : Start)
+      → May B k start → May A j start
+  pub lowers : (I : Input) → Cuttable I → (j : ℕ) → j < I .c → (start : Start) → May I j start → (v : ℕ) → CutAt I v
+      → May (part I v) j (Given (F (column I j) (startOr start (free (column I j))) v))
 
-pub label-work : Work (labelFrom lowest) freeStart LabelCall StateStart
+pub label-work : Work (labelFrom ruleInUse) freeStart LabelCall StateStart
 unfolding columnOf
 label-work =
     record {
       down = label-down;
-      call = λ I ok j hj start f fit call v h. labels-of I (ok .rules) j hj start f fit call v h;
-      made = λ I ok j hj start f fit right. labels-made I (ok .rules) j hj start fit f right;
+      call = λ I ok j hj start f fit call v h. labels-of I (ok .table) j hj start f fit call v h;
+      made = λ I ok j hj start f fit right. labels-made I (ok .table) j hj start fit f right;
       same = λ A B top. top .start;
       moves = λ A B j k e top. state-start A B j k e (λ x h. top .root x (subst (λ s. x < s) (sym e) h));
       lowers = λ I ok j hj start fit v cut. part-state I ok j hj v cut _
@@ -175,54 +170,51 @@ unfolding columnOf
 sets-work =
     record {
       down = sets-down;
-      call = λ I ok j hj start f fit call v h. sets-of I (ok .rules) j hj start f fit call v h;
-      made = λ I ok j hj start f fit right. sets-made I (ok .rules) j hj start fit f right;
+      call = λ I ok j hj start f fit call v h. sets-of I (ok .table) j hj start f fit call v h;
+      made = λ I ok j hj start f fit right. sets-made I (ok .table) j hj start fit f right;
       same = λ A B top. top .free;
       moves = λ A B j k e top. set-start A B j k e (λ x h. top .root x (subst (λ s. x < s) (sym e) h));
       lowers = λ I ok j hj start fit v cut. let inside = cut .inside in
           part-set I ok j hj v cut _ (set-some I ok j hj start fit v (omega arith))
-          (set-of I (ok .rules) j hj start fit v (omega arith) .within);
+          (set-of I (ok .table) j hj start fit v (omega arith) .within);
     }
 
 module _ {F : Column → ℕ → ℕ → ℕ} {free : Column → ℕ} {Call : Input → ℕ → Start → (ℕ → ℕ) → Type 0}
-    {Allowed : Input → ℕ → Start → Type 0} (work : Work F free Call Allowed) where
+    {May : Input → ℕ → Start → Type 0} (work : Work F free Call May) where
   -- what is worked on a range is what is worked on the table
   pub range-right : (I : Input) (ok : Cuttable I) (first count : ℕ) (within : first + count ≤ I .c) (i j : ℕ)
       → i < count → first + i ≡ j → (start : Start) (v : ℕ) → v < nodes I
-      → F (column (span I first count) i) (stateOf start (free (column (span I first count) i))) v
-      ≡ F (column I j) (stateOf start (free (column I j))) v
+      → F (column (span I first count) i) (startOr start (free (column (span I first count) i))) v
+      ≡ F (column I j) (startOr start (free (column I j))) v
   range-right I ok first count within i j low same start v h =
-      ap (λ z. F (column (span I first count) i) (stateOf start z) v)
+      ap (λ z. F (column (span I first count) i) (startOr start z) v)
       (work .same _ _ (span-top I ok first count within i j low same))
-      ∙ span-down I ok first count within i j low same F (work .down) (stateOf start (free (column I j))) v h
+      ∙ span-down I ok first count within i j low same F (work .down) (startOr start (free (column I j))) v h
 
   -- What comes down by a plan is what the definitions by rows give on the whole table.
-  comes-right : (plan : Plan) (I : Input) (j : ℕ) (start : Start) (f : ℕ → ℕ) → Cuttable I → j < I .c → Allowed I j
-      start
-      → Comes Call plan I j start f
-      → (v : ℕ) → v < nodes I → f v ≡ F (column I j) (stateOf start (free (column I j))) v
+  comes-right : (plan : Plan) (I : Input) (j : ℕ) (start : Start) (f : ℕ → ℕ) → Cuttable I → j < I .c
+      → May I j start → Comes Call plan I j start f
+      → (v : ℕ) → v < nodes I → f v ≡ F (column I j) (startOr start (free (column I j))) v
   comes-right whole I j start f ok hj fit call v h = work .call I ok j hj start f fit call v h
   comes-right (cutAt v below above) I j start f ok hj fit (cut, (sent, (low, (high, lower)))) u h =
       let inside = cut .inside in
       let right = sent-right below I v sent ok cut low in
-      let in-part = part-stands I (ok .rules) v cut in
-      let in-rest = rest-stands I (ok .rules) v cut sent right in
+      let in-part = part-stands I (ok .table) v cut in
+      let in-rest = rest-stands I (ok .table) v cut sent right in
       let J = rest I v sent in
       let top = rest-top I ok v cut sent right j hj in
-      let x = stateOf start (free (column I j)) in
+      let x = startOr start (free (column I j)) in
       let upper : (i : ℕ) → i < nodes J → f (restNode I v sent i) ≡ F (column J j) x i =
-      λ i hi. comes-right above J j start (λ i. f (restNode I v sent i)) (again I ok (inRest I v sent) (nodes I - 1)
-      in-rest) hj
-      (work .moves J I j j refl top start fit) high i hi
-      ∙ ap (λ z. F (column J j) (stateOf start z) i) (work .same _ _ top) in
+      λ i hi. comes-right above J j start (λ i. f (restNode I v sent i))
+      (again I ok (inRest I v sent) (nodes I - 1) in-rest) hj (work .moves J I j j refl top start fit) high i hi
+      ∙ ap (λ z. F (column J j) (startOr start z) i) (work .same _ _ top) in
       let own = cut-above F (work .down) I ok v cut sent right j hj x f upper v (omega arith)
-      (rest-own I (ok .rules) v cut sent right) in
-      let start-below : Allowed (part I v) j (Given (f v)) =
-      subst (λ z. Allowed (part I v) j (Given z)) (sym own) (work .lowers I ok j hj start fit v cut) in
+      (rest-own I (ok .table) v cut sent right) in
+      let start-below : May (part I v) j (Given (f v)) =
+      subst (λ z. May (part I v) j (Given z)) (sym own) (work .lowers I ok j hj start fit v cut) in
       cut-down F (work .down) I ok v cut sent right j hj x f upper own
-      (λ i hi. comes-right below (part I v) j (Given (f v)) (λ i. f (partNode I v i)) (again I ok (inPart I v) v
-      in-part) hj
-      start-below lower i hi) u h
+      (λ i hi. comes-right below (part I v) j (Given (f v)) (λ i. f (partNode I v i))
+      (again I ok (inPart I v) v in-part) hj start-below lower i hi) u h
   comes-right (columnsAt m first second) I j start f ok hj fit (within, side) v h =
       ⊎-elim
       (λ p. let low = p .0 in
@@ -239,27 +231,25 @@ module _ {F : Column → ℕ → ℕ → ℕ} {free : Column → ℕ} {Call : In
       side
 
 -- The labels put together are the table's.
-pub labels-right : (plan : Plan) (I : Input) (j : ℕ) (start : Start) (l : ℕ → ℕ) → Cuttable I → j < I .c → StateStart
-    I j start
-    → LabelsBy plan I j start l
-    → (v : ℕ) → v < nodes I → l v ≡ labelFrom lowest (column I j) (stateOf start (freeStart (column I j))) v
+pub labels-right : (plan : Plan) (I : Input) (j : ℕ) (start : Start) (l : ℕ → ℕ) → Cuttable I → j < I .c
+    → StateStart I j start → LabelsBy plan I j start l
+    → (v : ℕ) → v < nodes I → l v ≡ labelsFor (column I j) start v
 labels-right = comes-right label-work
 
 -- The sets put together are the table's.
-pub sets-right : (plan : Plan) (I : Input) (j : ℕ) (start : Start) (S : ℕ → ℕ) → Cuttable I → j < I .c → SetStart I j
-    start
-    → SetsBy plan I j start S
-    → (v : ℕ) → v < nodes I → S v ≡ setsFrom (column I j) (stateOf start (freeSet (column I j))) v
+pub sets-right : (plan : Plan) (I : Input) (j : ℕ) (start : Start) (S : ℕ → ℕ) → Cuttable I → j < I .c
+    → SetStart I j start → SetsBy plan I j start S
+    → (v : ℕ) → v < nodes I → S v ≡ setsFor (column I j) start v
 sets-right = comes-right sets-work
 
 -- No table on which a plan makes calls refuses one.
 pub plan-answers : (plan : Plan) (I : Input) → Cuttable I → Everywhere Answers plan I
-plan-answers whole I ok = rules-answer I (ok .rules)
+plan-answers whole I ok = rules-answer I (ok .table)
 plan-answers (cutAt v below above) I ok = λ cut. (
-  plan-answers below (part I v) (again I ok (inPart I v) v (part-stands I (ok .rules) v cut)),
+  plan-answers below (part I v) (again I ok (inPart I v) v (part-stands I (ok .table) v cut)),
   λ sent low. let right = sent-right below I v sent ok cut low in
       plan-answers above (rest I v sent)
-      (again I ok (inRest I v sent) (nodes I - 1) (rest-stands I (ok .rules) v cut sent right)),
+      (again I ok (inRest I v sent) (nodes I - 1) (rest-stands I (ok .table) v cut sent right)),
 )
 plan-answers (columnsAt m first second) I ok = λ within. (
   plan-answers first (span I 0 m) (span-cuttable I ok 0 m (omega arith)),

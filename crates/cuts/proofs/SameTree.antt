@@ -6,7 +6,7 @@ use Prim.Native.Nat.{ℕ}
 use lib.ListN.{length}
 use Rattle.parsimony.specs.Filled.{listOf}
 use Rattle.parsimony.specs.Table.{symbol, handed, Node, leaf, inner}
-use Rattle.answers.specs.Input.{Input, input}
+use Rattle.promises.specs.Input.{Input, input}
 use Rattle.cuts.specs.Cut.{branch, rest, restNode, inRest}
 use Rattle.cuts.specs.Nodes.{noRows}
 use Rattle.cuts.specs.Numbering.{renumber, original}
@@ -17,7 +17,7 @@ use Rattle.cuts.specs.Piece.{
   renumbered,
   leftEntry,
   rightEntry,
-  nodeOf,
+  pieceNode,
   nodeNew,
   keptNodes,
 }
@@ -44,7 +44,7 @@ module _ (I : Input) (v : ℕ) (up : ℕ → ℕ → ℕ) where
   renumbered-bare u (inner a b) = refl
 
   new-bare : nodeNew I (inRest I v up) ≡ nodeNew (bare (I .left) (I .right)) (bareRest v (I .left) (I .right))
-  unfolding branch nodeNew nodeOf
+  unfolding branch nodeNew pieceNode
   new-bare = fun-ext (λ i. renumbered-bare (restNode I v up i) (inRest I v up .node (restNode I v up i)))
 
 module _ (I J : Input) (same : SameTree I J) (v : ℕ) (up up' : ℕ → ℕ → ℕ) where
@@ -55,7 +55,7 @@ module _ (I J : Input) (same : SameTree I J) (v : ℕ) (up up' : ℕ → ℕ →
 
   -- with the same numbers
   pub node-same : restNode J v up' ≡ restNode I v up
-  unfolding nodeOf
+  unfolding pieceNode
   node-same = ap₂ (λ keep left i. original keep (length left) i) kept-same (same .left)
 
   long-same : keptNodes J (inRest J v up') ≡ keptNodes I (inRest I v up)

@@ -4,19 +4,20 @@ use mathlib.Core.Logic.{inl, inr}
 use mathlib.Core.Path.{_≡_, refl, ap, ap₂, sym, _∙_, subst}
 use Prim.Native.Nat.{ℕ, _≤_, _<_}
 use native.Mathlib.Omega.{arith}
+use lib.Dec.{eqb}
 use Rattle.parsimony.specs.Barred.{plus}
 use Rattle.parsimony.specs.Column.{Column}
 use Rattle.parsimony.specs.Label.{choose, labelFrom, freeStart}
-use Rattle.parsimony.specs.Least.{TieRule, low, least}
+use Rattle.parsimony.specs.Least.{low, least}
 use Rattle.parsimony.specs.NodeSet.{childSet, reaches, setsFrom, freeSet}
 use Rattle.parsimony.specs.Row.{IsRows, innerRow, up, row, score}
-use Rattle.parsimony.specs.Tree.{Kids, tip, two, Has, merge, Rooted}
 use Rattle.parsimony.specs.StateSet.{holds, gather}
 use Rattle.parsimony.specs.Test.{both, some}
-use lib.Dec.{eqb}
+use Rattle.parsimony.specs.Tie.{TieRule}
+use Rattle.parsimony.specs.Tree.{Kids, tip, two, Has, merge, Rooted}
 use Rattle.parsimony.proofs.LeastLaws.{least-same, low-same}
-use Rattle.parsimony.proofs.StateCountLaws.{gather-same}
 use Rattle.parsimony.proofs.RowLaws.{row-inner, row-rows, rows-unique}
+use Rattle.parsimony.proofs.StateCountLaws.{gather-same}
 use Rattle.parsimony.proofs.TreeLaws.{descend-meets}
 use Rattle.parsimony.proofs.Unique.{choose-same, child-same, labels-unique, sets-unique}
 use Rattle.cuts.specs.Sits.{Sits}
@@ -59,9 +60,8 @@ has-along A B ρ sits p u h c = go (A .kids p) refl c
     go (two a b) e (inl q) = subst (Has (ρ u)) (sym (sits .inner p a b h e)) (inl (ap ρ q))
     go (two a b) e (inr q) = subst (Has (ρ u)) (sym (sits .inner p a b h e)) (inr (ap ρ q))
 
-module _ (A B : Column) (ρ : ℕ → ℕ) (sits : Sits A B ρ) (treeA : Rooted (A .last) (A .kids)) (treeB : Rooted (B
-    .last) (B .kids))
-    (pos : 0 < A .states) where
+module _ (A B : Column) (ρ : ℕ → ℕ) (sits : Sits A B ρ) (treeA : Rooted (A .last) (A .kids))
+    (treeB : Rooted (B .last) (B .kids)) (pos : 0 < A .states) where
   along-rows : IsRows A (λ v. row B (ρ v))
   unfolding innerRow
   along-rows v x h k = go (A .kids v) refl

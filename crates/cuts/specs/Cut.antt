@@ -8,9 +8,9 @@ use Rattle.parsimony.specs.Column.{cellAt, handedAt}
 use Rattle.parsimony.specs.Table.{symbol, handed, leaf, inner, kidsAt, nodeAt, tips}
 use Rattle.parsimony.specs.Test.{at, pick}
 use Rattle.parsimony.specs.Tree.{descend}
-use Rattle.answers.specs.Input.{Input, input, nodes, nodeIn, tipsIn, column}
+use Rattle.promises.specs.Input.{Input, input, nodes, nodeIn, tipsIn, column}
 use Rattle.cuts.specs.Filled.{cellsBy, entriesBy}
-use Rattle.cuts.specs.Piece.{Choice, nodeOf, piece}
+use Rattle.cuts.specs.Piece.{Choice, pieceNode, piece}
 
 -- the nodes that may be cut: v is inner and is not the root
 pub record CutAt (I : Input) (v : ℕ) : Type 0 where
@@ -18,21 +18,21 @@ pub record CutAt (I : Input) (v : ℕ) : Type 0 where
   pub kids : (a : ℕ) × (b : ℕ) × (nodeIn I v ≡ inner a b)
 
 -- the mark that goes down from v: v has it, and a child has what its parent has
-unfoldable pub marked : ℕ → ℕ → ℕ → ℕ
+unfoldable pub passMark : ℕ → ℕ → ℕ → ℕ
 unfolding pick
-marked v u mark = pick (eqb u v) 1 mark
+passMark v u mark = pick (eqb u v) 1 mark
 
 -- 1 where node u is v or stands below it, else 0
 unfoldable pub branch : Input → ℕ → ℕ → ℕ
-unfolding descend marked at nodeAt
-branch I v u = descend (nodes I - 1) (kidsAt (I .left) (I .right)) (marked v) (at v 1 (nodes I - 1)) u
+unfolding descend passMark at nodeAt
+branch I v u = descend (nodes I - 1) (kidsAt (I .left) (I .right)) (passMark v) (at v 1 (nodes I - 1)) u
 
 -- the part: v and all below, with what the table has there
 abbrev pub inPart : Input → ℕ → Choice
 inPart I v = record { keep = branch I v; node = nodeIn I; entry = λ j u x. column I j .entry u x }
 
--- the rest: v, become a handed tip with the rows sent up for it (the column first, then the state), and all that is not
--- below v
+-- the rest: v, become a handed tip with the rows sent up for it (the column first, then the state),
+-- and all that is not below v
 abbrev pub inRest : Input → ℕ → (ℕ → ℕ → ℕ) → Choice
 inRest I v up =
     record {
@@ -51,10 +51,10 @@ rest I v up = piece I (inRest I v up)
 
 -- node i of the part, and node i of the rest, in the numbers of the table that was cut
 abbrev pub partNode : Input → ℕ → ℕ → ℕ
-partNode I v i = nodeOf I (inPart I v) i
+partNode I v i = pieceNode I (inPart I v) i
 
 abbrev pub restNode : Input → ℕ → (ℕ → ℕ → ℕ) → ℕ → ℕ
-restNode I v up i = nodeOf I (inRest I v up) i
+restNode I v up i = pieceNode I (inRest I v up) i
 
 -- the cells and handed entries of the columns from the first on
 unfoldable pub laterCell : Input → ℕ → ℕ → ℕ → ℕ

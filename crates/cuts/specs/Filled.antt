@@ -9,8 +9,8 @@ unfoldable pub cellsBy : ℕ → ℕ → (ℕ → ℕ → ℕ) → List ℕ
 unfolding joined listOf
 cellsBy t c cell = joined t (λ r. listOf c (cell r))
 
--- the handed entries of c columns, h rows and s states: that of column j, row k and state x stands at (j * h + k) * s
--- + x
+-- the handed entries of c columns, h rows and s states: that of column j, row k and state x stands at
+-- (j * h + k) * s + x
 unfoldable pub entriesBy : ℕ → ℕ → ℕ → (ℕ → ℕ → ℕ → ℕ) → List ℕ
 unfolding joined listOf
 entriesBy c h s entry = joined c (λ j. joined h (λ k. listOf s (entry j k)))

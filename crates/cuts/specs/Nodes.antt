@@ -2,7 +2,7 @@
 -- Assumes nothing.
 use mathlib.Core.List.{List, [], _∷_, _++_}
 use Prim.Native.Nat.{ℕ, suc, _-_, _≤_}
-use Rattle.answers.specs.Input.{Input}
+use Rattle.promises.specs.Input.{Input}
 use Rattle.cuts.specs.Cut.{CutAt, part, rest, partNode, restNode, inRest, span}
 use Rattle.cuts.specs.Numbering.{renumber}
 use Rattle.cuts.specs.Plan.{Plan, whole, cutAt, columnsAt}

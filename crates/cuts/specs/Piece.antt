@@ -2,10 +2,10 @@
 -- Assumes nothing.
 use Prim.Native.Nat.{ℕ, _+_, _*_}
 use Rattle.parsimony.specs.Column.{cellAt}
+use Rattle.parsimony.specs.Filled.{listOf}
 use Rattle.parsimony.specs.Sum.{sum}
 use Rattle.parsimony.specs.Table.{symbol, handed, Node, leaf, inner, isTip, names, tips, nodeAt}
-use Rattle.answers.specs.Input.{Input, input, nodes, tipsIn}
-use Rattle.parsimony.specs.Filled.{listOf}
+use Rattle.promises.specs.Input.{Input, input, nodes, tipsIn}
 use Rattle.cuts.specs.Filled.{cellsBy, entriesBy}
 use Rattle.cuts.specs.Numbering.{renumber, original}
 
@@ -46,14 +46,14 @@ rightEntry (leaf handed k) = 32768 + k
 rightEntry (inner a b) = b
 
 -- node i of the piece, in the numbers of the table
-unfoldable pub nodeOf : Input → Choice → ℕ → ℕ
+unfoldable pub pieceNode : Input → Choice → ℕ → ℕ
 unfolding original
-nodeOf I K i = original (K .keep) (nodes I) i
+pieceNode I K i = original (K .keep) (nodes I) i
 
 -- what stands there, in the numbers of the piece
 unfoldable pub nodeNew : Input → Choice → ℕ → Node
-unfolding nodeOf keptRow keptHanded renumber
-nodeNew I K i = renumbered I K (nodeOf I K i) (K .node (nodeOf I K i))
+unfolding pieceNode keptRow keptHanded renumber
+nodeNew I K i = renumbered I K (pieceNode I K i) (K .node (pieceNode I K i))
 
 -- how many nodes, symbol tips and handed tips the piece has
 abbrev pub keptNodes : Input → Choice → ℕ
@@ -78,7 +78,9 @@ keptEntry I K j k x = K .entry j (original (keptHanded K) (nodes I) k) x
 -- The piece of a table: the kept nodes with their matrix rows and handed rows, all columns.
 abbrev pub piece : Input → Choice → Input
 piece I K =
-    input (listOf (keptNodes I K) (λ i. leftEntry (nodeNew I K i))) (listOf (keptNodes I K) (λ i. rightEntry (nodeNew
-    I K i)))
-    (I .s) (I .costs) (I .c) (cellsBy (keptRows I K) (I .c) (keptCell I K)) (entriesBy (I .c) (keptTips I K) (I .s)
-    (keptEntry I K))
+    input
+    (listOf (keptNodes I K) (λ i. leftEntry (nodeNew I K i)))
+    (listOf (keptNodes I K) (λ i. rightEntry (nodeNew I K i)))
+    (I .s) (I .costs) (I .c)
+    (cellsBy (keptRows I K) (I .c) (keptCell I K))
+    (entriesBy (I .c) (keptTips I K) (I .s) (keptEntry I K))

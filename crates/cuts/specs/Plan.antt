@@ -2,9 +2,9 @@
 -- Assumes nothing.
 use mathlib.Core.Logic.{_⊎_}
 use Prim.Native.Nat.{ℕ, _+_, _-_, _<_, _≤_}
-use Rattle.answers.specs.Input.{Input}
-use Rattle.answers.specs.declared.Start.{Start}
-use Rattle.answers.specs.declared.Start.the-variants.{Given}
+use Rattle.promises.specs.Input.{Input}
+use Rattle.promises.specs.declared.Start.{Start}
+use Rattle.promises.specs.declared.Start.the-variants.{Given}
 use Rattle.cuts.specs.Call.{ScoreCall, LabelCall, SetsCall, HandUpCall}
 use Rattle.cuts.specs.Cut.{CutAt, part, rest, partNode, restNode, span}
 

@@ -7,8 +7,7 @@ use Rattle.parsimony.specs.Row.{row}
 use Rattle.parsimony.specs.Tree.{tip, two}
 
 -- A sits in B by ρ: states and costs are the same; an inner node goes to an inner node, and its children to the
--- children
--- there; a tip's row is B's row at the node that the tip goes to.
+-- children there; a tip's row is B's row at the node that the tip goes to.
 pub record Sits (A B : Column) (ρ : ℕ → ℕ) : Type 0 where
   pub states : A .states ≡ B .states
   pub cost : A .cost ≡ B .cost

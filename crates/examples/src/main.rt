@@ -3,13 +3,15 @@
 ghost use mathlib.Core.Path.{_≡_};
 ghost use Prim.Native.Nat.{_<_, _≤_};
 ghost use lib.ListN.{length};
+use answer_codes::NO_START;
 use calls::fernijster_count;
 use calls::fernijster_hand_up;
 use calls::fernijster_label;
 use calls::fernijster_score;
 use calls::fernijster_sets;
-
-const NO_START: u64 = 18446744073709551615;
+use parsimony::BARRED;
+use parsimony::Cell;
+use parsimony::NO_CHILD;
 
 // One line: what is tried, and the code.
 fn show(what: &[u8], code: u64) {
@@ -22,10 +24,10 @@ fn show(what: &[u8], code: u64) {
 // The left entry of node v of a comb: even nodes from 2 on join the two nodes before them.
 fn left_of(v: u16) -> u16 {
     if v % 2 == 1 {
-        return 65535;
+        return NO_CHILD;
     }
     if v < 2 {
-        return 65535;
+        return NO_CHILD;
     }
     v - 2
 }
@@ -62,7 +64,7 @@ fn score(
     s: u64,
     costs: &[u16],
     c: u64,
-    cells: &[u16],
+    cells: &[Cell],
     handed: &[u32],
 ) -> u64 {
     let mut scores = [7u32; 1];
@@ -81,7 +83,7 @@ fn score(
 }
 
 // Scoring the first n nodes of a tree of two states.
-fn score_first(left: &[u16], right: &[u16], cells: &[u16], n: usize) -> u64
+fn score_first(left: &[u16], right: &[u16], cells: &[Cell], n: usize) -> u64
     requires { ⌜ (n ≤ length (now left)) × (n ≤ length (now right)) × (n ≤ length (now cells)) ⌝ }
 {
     let tips = n / 2 + n % 2;
@@ -119,7 +121,7 @@ fn show_two(what: &[u8], child: u16, right: &[u16]) {
     show(
         what,
         score(
-            &[65535, 65535, child],
+            &[NO_CHILD, NO_CHILD, child],
             right,
             2,
             &[0, 1, 1, 0],
@@ -140,8 +142,8 @@ fn shapes() {
 }
 
 // One tip with the cell that is given, under a cost table of s states.
-fn show_costs(what: &[u8], s: u64, cell: u16, costs: &[u16]) {
-    show(what, score(&[65535], &[0], s, costs, 1, &[cell], &[]));
+fn show_costs(what: &[u8], s: u64, cell: Cell, costs: &[u16]) {
+    show(what, score(&[NO_CHILD], &[0], s, costs, 1, &[cell], &[]));
 }
 
 fn costs() {
@@ -155,10 +157,10 @@ fn costs() {
 }
 
 // One tip of two states, its cells in c columns.
-fn show_cells(what: &[u8], right: u16, c: u64, cells: &[u16]) {
+fn show_cells(what: &[u8], right: u16, c: u64, cells: &[Cell]) {
     show(
         what,
-        score(&[65535], &[right], 2, &[0, 1, 1, 0], c, cells, &[]),
+        score(&[NO_CHILD], &[right], 2, &[0, 1, 1, 0], c, cells, &[]),
     );
 }
 
@@ -175,25 +177,25 @@ fn cells() {
 fn show_handed(what: &[u8], handed: &[u32]) {
     show(
         what,
-        score(&[65535], &[32768], 2, &[0, 1, 1, 0], 1, &[], handed),
+        score(&[NO_CHILD], &[32768], 2, &[0, 1, 1, 0], 1, &[], handed),
     );
 }
 
 fn handed() {
-    show_handed(b"handed 1,020,978:", &[1020978, 4294967295]);
-    show_handed(b"handed 1,020,979:", &[1020979, 4294967295]);
-    show_handed(b"handed, wholly barred:", &[4294967295, 4294967295]);
+    show_handed(b"handed 1,020,978:", &[1020978, BARRED]);
+    show_handed(b"handed 1,020,979:", &[1020979, BARRED]);
+    show_handed(b"handed, wholly barred:", &[BARRED, BARRED]);
     show_handed(b"handed, one entry:", &[0]);
     show(
         b"handed to no tip:",
-        score(&[65535], &[0], 2, &[0, 1, 1, 0], 1, &[1], &[0, 0]),
+        score(&[NO_CHILD], &[0], 2, &[0, 1, 1, 0], 1, &[1], &[0, 0]),
     );
 }
 
 // Labelling one tip of state 0 of two, into the lists that are lent.
 fn label_tip(column: u64, start: u64, states: &mut [u8], rows: &mut [u32]) -> u64 {
     fernijster_label(
-        &[65535],
+        &[NO_CHILD],
         &[0],
         2,
         &[0, 1, 1, 0],
@@ -209,10 +211,10 @@ fn label_tip(column: u64, start: u64, states: &mut [u8], rows: &mut [u32]) -> u6
 
 // The set of one tip of state 0 of two.
 fn set_tip(column: u64, start: u64) -> u64 {
-    let mut sets = [7u16; 1];
+    let mut sets: [Cell; 1] = [7; 1];
     let mut rows = [7u32; 2];
     fernijster_sets(
-        &[65535],
+        &[NO_CHILD],
         &[0],
         2,
         &[0, 1, 1, 0],
@@ -251,9 +253,9 @@ fn set_starts() {
 }
 
 // Counting one tip by sets.
-fn count_tip(right: u16, costs: &[u16], cells: &[u16], column: u64) -> u64 {
-    let mut sets = [7u16; 1];
-    fernijster_count(&[65535], &[right], 2, costs, 1, cells, column, &mut sets)
+fn count_tip(right: u16, costs: &[u16], cells: &[Cell], column: u64) -> u64 {
+    let mut sets: [Cell; 1] = [7; 1];
+    fernijster_count(&[NO_CHILD], &[right], 2, costs, 1, cells, column, &mut sets)
 }
 
 fn show_count(what: &[u8], costs: &[u16], column: u64) {
@@ -272,7 +274,18 @@ fn counts() {
 
 // Handing up one tip, with room for so many entries.
 fn hand_up_tip(row: &mut [u32], rows: &mut [u32]) -> u64 {
-    fernijster_hand_up(&[65535], &[0], 2, &[0, 1, 1, 0], 1, &[1], &[], 0, row, rows)
+    fernijster_hand_up(
+        &[NO_CHILD],
+        &[0],
+        2,
+        &[0, 1, 1, 0],
+        1,
+        &[1],
+        &[],
+        0,
+        row,
+        rows,
+    )
 }
 
 // The last two lend no room at all: WHICH comes before ROOM.

@@ -4,8 +4,8 @@ use mathlib.Core.List.{List}
 use mathlib.Core.Path.{_≡_, sym, _∙_}
 use Prim.Native.Nat.{ℕ, _/_, _%_, _<_}
 use lib.ListN.{length}
-use Rattle.codes.proofs.CodeLaws.{packed-number, packed-carried}
-use Rattle.exchange.specs.Entry.{Outcome, done, refused, codeOf, Entered}
+use Rattle.answer_codes.proofs.CodeLaws.{packed-number, packed-carried}
+use Rattle.exchange.specs.Entry.{Outcome, done, refused, outcomeCode, Entered}
 
 -- two outcomes of one call are the same: the code, and every byte lent
 pub entry-outcome : (sheet : List ℕ) (j : ℕ) (out : List ℕ) (a b : ℕ) (out₁ out₂ : List ℕ) → Entered sheet j out a out₁
@@ -13,21 +13,21 @@ pub entry-outcome : (sheet : List ℕ) (j : ℕ) (out : List ℕ) (a b : ℕ) (o
 entry-outcome sheet j out a b out₁ out₂ f g = (f .answer ∙ sym (g .answer), f .output ∙ sym (g .output))
 
 -- the number of an outcome, and what stands above it
-abbrev pub numberOf : Outcome → ℕ
-numberOf (done line) = 0
-numberOf (refused number carried) = number
+abbrev pub outcomeNumber : Outcome → ℕ
+outcomeNumber (done line) = 0
+outcomeNumber (refused number carried) = number
 
-abbrev pub carriedOf : Outcome → ℕ
-carriedOf (done line) = length line
-carriedOf (refused number carried) = carried
+abbrev pub outcomeCarries : Outcome → ℕ
+outcomeCarries (done line) = length line
+outcomeCarries (refused number carried) = carried
 
 -- both are read back from the code, where the number is below 256
-pub code-number : (o : Outcome) → numberOf o < 256 → codeOf o % 256 ≡ numberOf o
-unfolding codeOf
-code-number (done line) h = packed-number 0 (length line) h
-code-number (refused number carried) h = packed-number number carried h
+pub entry-number : (o : Outcome) → outcomeNumber o < 256 → outcomeCode o % 256 ≡ outcomeNumber o
+unfolding outcomeCode
+entry-number (done line) h = packed-number 0 (length line) h
+entry-number (refused number carried) h = packed-number number carried h
 
-pub code-carried : (o : Outcome) → numberOf o < 256 → codeOf o / 256 ≡ carriedOf o
-unfolding codeOf
-code-carried (done line) h = packed-carried 0 (length line) h
-code-carried (refused number carried) h = packed-carried number carried h
+pub entry-carried : (o : Outcome) → outcomeNumber o < 256 → outcomeCode o / 256 ≡ outcomeCarries o
+unfolding outcomeCode
+entry-carried (done line) h = packed-carried 0 (length line) h
+entry-carried (refused number carried) h = packed-carried number carried h

@@ -2,30 +2,23 @@
 ghost use mathlib.Core.Path.{_≡_};
 ghost use lib.ListN.{length};
 ghost use Rattle.exchange.specs.Entry.{Entered};
-ghost use Rattle.printer.specs.SheetLine.{Ready};
-use codes::fault_code;
-use costs::flat_costs;
-use printer::sheet_line;
+ghost use Rattle.report_pages.specs.SheetLine.{Printable};
+use answer_codes::fault_code;
+use parsimony::BARRED;
+use parsimony::Cell;
+use parsimony::MOST_NODES;
+use parsimony::NO_CHILD;
+use report_pages::MOST_ENTRIES;
+use report_pages::MOST_LINE;
+use report_pages::sheet_line;
+use report_text::put_text;
 use sheet::Read;
 use sheet::Sheet;
 use sheet::read_sheet;
-use texts::put_text;
+use sheet_costs::flat_costs;
+use sheet_lines::MOST_NAMES;
 
-const MOST_NAMES: usize = 512;
-
-const MOST_NODES: usize = 1023;
-
-// Four entries for each node.
-const MOST_ENTRIES: usize = 4092;
-
-// The longest line and a few bytes more.
-const LINE_ROOM: usize = 1056;
-
-// No child, and barred: what the lists are filled with.
-const NO_CHILD: u16 = 65535;
-
-const BARRED: u32 = 4294967295;
-
+// What the entry itself refuses: no such column, and too little room.
 const WHICH: u64 = 6;
 
 const ROOM: u64 = 8;
@@ -40,15 +33,15 @@ fn give_line(
     j: usize,
     out: &mut [u8],
 ) -> u64
-    requires { ⌜ Ready (now sheet) s (now costs) (now left) (now right) j ⌝ }
+    requires { ⌜ Printable (now sheet) s (now costs) (now left) (now right) j ⌝ }
     requires { ⌜ (length (now left) ≡ 1023) × (length (now right) ≡ 1023) ⌝ }
     ensures { λ r. ⌜ Entered (now (sheet .entry)) j (now (out .entry)) r (now (out .exit)) ⌝ }
 {
-    let mut cells = [0u16; MOST_NAMES];
+    let mut cells: [Cell; MOST_NAMES] = [0; MOST_NAMES];
     let mut states = [0u8; MOST_NODES];
-    let mut sets = [0u16; MOST_NODES];
+    let mut sets: [Cell; MOST_NODES] = [0; MOST_NODES];
     let mut rows = [BARRED; MOST_ENTRIES];
-    let mut line = [0u8; LINE_ROOM];
+    let mut line = [0u8; MOST_LINE];
     let printed = sheet_line(
         sheet,
         s,

@@ -7,7 +7,7 @@ use Rattle.parsimony.specs.Barred.{barred}
 use Rattle.parsimony.specs.Column.{Column}
 use Rattle.parsimony.specs.Label.{choose, labelFrom}
 use Rattle.parsimony.specs.Labelling.{Agrees, costOf, LeastFrom}
-use Rattle.parsimony.specs.Least.{TieRule}
+use Rattle.parsimony.specs.Tie.{TieRule}
 use Rattle.parsimony.specs.Row.{through, up, row}
 use Rattle.parsimony.specs.Sound.{Sound}
 use Rattle.parsimony.specs.Tree.{tip, Has, Descent}

@@ -6,7 +6,7 @@ use native.Mathlib.Nat.{not-suc-le-zero, le-antisymm}
 use native.Mathlib.Omega.{arith}
 use borrow.Author.Tests.{lt-ltb, le-ltb}
 use lib.Dec.{ltb}
-use Rattle.parsimony.specs.Least.{Least, LowestLeast, low, least, TieRule, lowest}
+use Rattle.parsimony.specs.Least.{Least, LowestLeast, low, least}
 use Rattle.parsimony.specs.Test.{pick}
 use Rattle.parsimony.proofs.Order.{by-lt, by-eq, pick-true, pick-false}
 
@@ -118,8 +118,3 @@ lowest-least-unique f s y z hy hz =
     (λ k. by-lt z y
     (λ m. absurd (let a = hy .first z m in let b = hz .least .below y (hy .least .within) in omega arith))
     (λ m. omega arith))
-
--- lowest is a tie rule
-pub lowest-rule : TieRule lowest
-unfolding lowest
-lowest-rule = record { ties = λ s x f h. low-least f s h; same = λ s x f g h. low-same f g s h }

@@ -6,10 +6,13 @@ pub mod TellsLaws
 pub mod Extremes
 pub mod Sums
 pub mod FilledLaws
+pub mod WrittenLaws
 pub mod LeastLaws
+pub mod TieLaws
 pub mod TreeLaws
 pub mod TipLaws
 pub mod ShapeLaws
+pub mod LegalLaws
 pub mod NodeLaws
 pub mod BarredLaws
 pub mod Slack

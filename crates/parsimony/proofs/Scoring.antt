@@ -1,5 +1,6 @@
--- Demand 2 over every sound column: the score is least and reached, the labelling returned is least with ties to the
--- lowest, and a node's set holds exactly the states that least labellings take there; the same for forced starts.
+-- Demand 2 over every sound column: the score is least and reached, the labelling returned is least and takes the tie
+-- that is to be taken, and a node's set holds exactly the states that least labellings take there; the same for forced
+-- starts.
 -- Assumes nothing.
 use mathlib.Core.Logic.{_↔_}
 use mathlib.Core.Path.{_≡_, refl, ap, sym, _∙_, subst}
@@ -11,11 +12,12 @@ use Rattle.parsimony.specs.Barred.{barred}
 use Rattle.parsimony.specs.Column.{Column}
 use Rattle.parsimony.specs.Label.{choose, labelFrom, freeStart, label}
 use Rattle.parsimony.specs.Labelling.{Agrees, costOf, LeastLabelling, LeastFrom, IsScore}
-use Rattle.parsimony.specs.Least.{LowestLeast, TieRule, lowest}
+use Rattle.parsimony.specs.Least.{LowestLeast}
 use Rattle.parsimony.specs.NodeSet.{Taken, TakenFrom, setsFrom, freeSet, sets}
 use Rattle.parsimony.specs.Row.{through, row, score}
 use Rattle.parsimony.specs.Sound.{Sound}
 use Rattle.parsimony.specs.StateSet.{Member}
+use Rattle.parsimony.specs.Tie.{TieRule, ruleInUse, TakesTie}
 use Rattle.parsimony.specs.Tree.{Has}
 use Rattle.parsimony.proofs.LabelLaws.{
   TightLabels,
@@ -28,10 +30,11 @@ use Rattle.parsimony.proofs.LabelLaws.{
   label-from-costs,
   label-from-least,
 }
-use Rattle.parsimony.proofs.LeastLaws.{least-below, least-low, low-within, low-lowest, lowest-rule}
+use Rattle.parsimony.proofs.LeastLaws.{least-below, least-low, low-within, low-lowest}
 use Rattle.parsimony.proofs.SetLaws.{TightAt, sets-meet, sets-within, sets-taken, taken-sets}
 use Rattle.parsimony.proofs.Size.{bound-fits, row-open}
 use Rattle.parsimony.proofs.StateCountLaws.{gather-member, gather-within}
+use Rattle.parsimony.proofs.TieLaws.{in-use, in-use-takes}
 
 -- two scores of a column are equal
 pub score-unique : (P : Column) (j k : ℕ) → IsScore P j → IsScore P k → j ≡ k
@@ -80,6 +83,14 @@ module _ (most : ℕ) (P : Column) (sound : Sound most P) where
     pub rule-costs : costOf P (labelFrom rule P (freeStart P)) ≡ score P
     rule-costs = label-from-costs most P sound rule ties (freeStart P) free-state ∙ free-entry
 
+    -- so it is a least labelling
+    pub rule-least : LeastLabelling P (labelFrom rule P (freeStart P))
+    rule-least =
+        record {
+          agrees = rule-agrees;
+          least = λ other agrees. let c = rule-costs in let s = score-no-less other agrees in omega arith;
+        }
+
     -- forced to a state that the root's row does not bar, it is least among the labellings with that root
     pub rule-forced : (x : ℕ) → x < P .states → (row P (P .last) x ≡ barred → ⊥) → LeastFrom P x (labelFrom rule P x)
     rule-forced x hx open-root = label-from-least most P sound rule ties x hx open-root
@@ -96,23 +107,27 @@ module _ (most : ℕ) (P : Column) (sound : Sound most P) where
         → labelFrom rule P x u ≡ choose rule P (row P u) (labelFrom rule P x p)
     rule-child x p u h c = label-meets most P sound rule ties x .edge h c
 
+    -- from the free start the root takes the lowest least state of its row
+    pub rule-lowest : LowestLeast (row P (P .last)) (P .states) (labelFrom rule P (freeStart P) (P .last))
+    unfolding freeStart
+    rule-lowest =
+        subst (LowestLeast (row P (P .last)) (P .states)) (sym (rule-root (freeStart P)))
+        (low-lowest (row P (P .last)) (P .states) (sound .states))
+
   -- the labelling returned agrees with the tips
   pub label-agrees : Agrees P (label P)
   unfolding label
-  label-agrees = rule-agrees lowest lowest-rule
+  label-agrees = rule-agrees ruleInUse in-use
 
   -- and costs exactly the score
   pub label-costs : costOf P (label P) ≡ score P
   unfolding label
-  label-costs = rule-costs lowest lowest-rule
+  label-costs = rule-costs ruleInUse in-use
 
   -- so it is a least labelling
   pub label-least : LeastLabelling P (label P)
-  label-least =
-      record {
-        agrees = label-agrees;
-        least = λ other agrees. let c = label-costs in let s = score-no-less other agrees in omega arith;
-      }
+  unfolding label
+  label-least = rule-least ruleInUse in-use
 
   -- the score by rows is the score
   pub score-least : IsScore P (score P)
@@ -120,24 +135,24 @@ module _ (most : ℕ) (P : Column) (sound : Sound most P) where
 
   -- the root of the labelling returned is the lowest least state of the root's row
   pub label-root-lowest : LowestLeast (row P (P .last)) (P .states) (label P (P .last))
-  unfolding label freeStart
-  label-root-lowest =
-      subst (LowestLeast (row P (P .last)) (P .states)) (sym (rule-root lowest lowest-rule (freeStart P)))
-      (low-lowest (row P (P .last)) (P .states) (sound .states))
-
-  -- each child is the lowest state that reaches the least under its parent's, from any start
-  pub child-lowest : (x p u : ℕ) → p ≤ P .last → Has u (P .kids p)
-      → LowestLeast (through P (row P u) (labelFrom lowest P x p)) (P .states) (labelFrom lowest P x u)
-  unfolding choose lowest
-  child-lowest x p u h c =
-      subst (LowestLeast (through P (row P u) (labelFrom lowest P x p)) (P .states))
-      (sym (rule-child lowest lowest-rule x p u h c))
-      (low-lowest (through P (row P u) (labelFrom lowest P x p)) (P .states) (sound .states))
-
-  pub label-child-lowest : (p u : ℕ) → p ≤ P .last → Has u (P .kids p)
-      → LowestLeast (through P (row P u) (label P p)) (P .states) (label P u)
   unfolding label
-  label-child-lowest p u h c = child-lowest (freeStart P) p u h c
+  label-root-lowest = rule-lowest ruleInUse in-use
+
+  -- from any start, each child takes the tie under its parent's state
+  pub child-takes : (x p u : ℕ) → p ≤ P .last → Has u (P .kids p)
+      → TakesTie (through P (row P u) (labelFrom ruleInUse P x p)) (P .states) (labelFrom ruleInUse P x p)
+      (labelFrom ruleInUse P x u)
+  unfolding choose
+  child-takes x p u h c =
+      let y = labelFrom ruleInUse P x p in
+      let f = through P (row P u) y in
+      subst (TakesTie f (P .states) y) (sym (rule-child ruleInUse in-use x p u h c))
+      (in-use-takes f (P .states) y (sound .states))
+
+  pub label-child-takes : (p u : ℕ) → p ≤ P .last → Has u (P .kids p)
+      → TakesTie (through P (row P u) (label P p)) (P .states) (label P p) (label P u)
+  unfolding label
+  label-child-takes p u h c = child-takes (freeStart P) p u h c
 
   -- a labelling is least exactly when its root is least and every edge is tight
   least-tight : (l : ℕ → ℕ) → LeastLabelling P l → TightLabels P l × (row P (P .last) (l (P .last)) ≡ score P)
@@ -164,9 +179,9 @@ module _ (most : ℕ) (P : Column) (sound : Sound most P) where
   from-tight : (x : ℕ) (l : ℕ → ℕ) → x < P .states → (row P (P .last) x ≡ barred → ⊥) → LeastFrom P x l
       → TightLabels P l
   from-tight x l hx open-root least =
-      let best = least .least (labelFrom lowest P x) (rule-forced lowest lowest-rule x hx open-root .agrees)
-      (rule-root lowest lowest-rule x) in
-      let c = rule-forced-costs lowest lowest-rule x hx in
+      let best = least .least (labelFrom ruleInUse P x) (rule-forced ruleInUse in-use x hx open-root .agrees)
+      (rule-root ruleInUse in-use x) in
+      let c = rule-forced-costs ruleInUse in-use x hx in
       let e = ap (row P (P .last)) (least .root) in
       costs-tight most P sound l (least .agrees .states) (omega arith)
 

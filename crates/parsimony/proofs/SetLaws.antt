@@ -9,12 +9,12 @@ use borrow.Author.Tests.{eq-eqb, ne-eqb, eqb-true}
 use lib.Dec.{eqb}
 use Rattle.parsimony.specs.Column.{Column}
 use Rattle.parsimony.specs.Label.{choose, labelFrom}
-use Rattle.parsimony.specs.Least.{lowest}
 use Rattle.parsimony.specs.NodeSet.{reaches, childSet, setsFrom}
 use Rattle.parsimony.specs.Row.{through, up, row}
 use Rattle.parsimony.specs.Sound.{Sound}
 use Rattle.parsimony.specs.StateSet.{Member, holds, gather}
 use Rattle.parsimony.specs.Test.{pick, both, some}
+use Rattle.parsimony.specs.Tie.{ruleInUse}
 use Rattle.parsimony.specs.Tree.{Has, Descent, parent, descend}
 use Rattle.parsimony.proofs.LabelLaws.{
   TightLabels,
@@ -27,7 +27,6 @@ use Rattle.parsimony.proofs.LabelLaws.{
   label-states,
   label-tight,
 }
-use Rattle.parsimony.proofs.LeastLaws.{lowest-rule}
 use Rattle.parsimony.proofs.Order.{by-lt, by-eq, pick-true, pick-false, downward}
 use Rattle.parsimony.proofs.StateCountLaws.{
   gather-member,
@@ -39,6 +38,7 @@ use Rattle.parsimony.proofs.StateCountLaws.{
   both-true,
 }
 use Rattle.parsimony.proofs.StateSetLaws.{holds-true, holds-member, member-within}
+use Rattle.parsimony.proofs.TieLaws.{in-use}
 use Rattle.parsimony.proofs.TreeLaws.{parent-has, parent-is, parent-unique, descend-meets}
 
 -- a child's set holds y exactly when y reaches the least under some state of the parent's set
@@ -88,7 +88,7 @@ module _ (most : ℕ) (P : Column) (sound : Sound most P) where
   turn : (l : ℕ → ℕ) (v y : ℕ) → ℕ → ℕ → ℕ
   turn l v y u x =
       pick (eqb u v) y
-      (pick (eqb x (l (parent (P .kids) (suc (P .last)) u))) (l u) (choose lowest P (row P u) x))
+      (pick (eqb x (l (parent (P .kids) (suc (P .last)) u))) (l u) (choose ruleInUse P (row P u) x))
 
   turned : (l : ℕ → ℕ) (v y : ℕ) → ℕ → ℕ
   turned l v y = descend (P .last) (P .kids) (turn l v y) (l (P .last))
@@ -110,7 +110,7 @@ module _ (most : ℕ) (P : Column) (sound : Sound most P) where
         ∙ pick-true (l u) _ (eq-eqb _ _ (e ∙ ap l (sym (parent-is (P .last) (P .kids) (sound .tree) q u hq cq))))
 
     turn-fresh : (q u x : ℕ) → q ≤ P .last → Has u (P .kids q) → (u ≡ v → ⊥) → (x ≡ l q → ⊥)
-        → turn l v y u x ≡ choose lowest P (row P u) x
+        → turn l v y u x ≡ choose ruleInUse P (row P u) x
     unfolding turn
     turn-fresh q u x hq cq ne no-match =
         pick-false y _ (ne-eqb u v ne)
@@ -150,7 +150,7 @@ module _ (most : ℕ) (P : Column) (sound : Sound most P) where
             (λ ne. by-eq (turned l v y r) (l r)
             (λ e. subst (λ z. z < P .states) (sym (turn-kept r q (turned l v y r) hr cr ne e)) (states q (omega arith)))
             (λ no-match. subst (λ z. z < P .states) (sym (turn-fresh r q (turned l v y r) hr cr ne no-match))
-            (choose-state most P sound lowest lowest-rule q (turned l v y r))))
+            (choose-state most P sound ruleInUse in-use q (turned l v y r))))
 
     turned-tight : TightLabels P (turned l v y)
     turned-tight r q hr cr =
@@ -171,11 +171,11 @@ module _ (most : ℕ) (P : Column) (sound : Sound most P) where
         (λ e. let lq : turned l v y q ≡ l q = meets .edge hr cr ∙ turn-kept r q (turned l v y r) hr cr ne e in
         subst (λ z. P .cost z (turned l v y q) + row P q (turned l v y q) ≡ up P (row P q) z) (sym e)
         (subst (λ z. P .cost (l r) z + row P q z ≡ up P (row P q) (l r)) (sym lq) (tight r q hr cr)))
-        (λ no-match. let lq : turned l v y q ≡ choose lowest P (row P q) (turned l v y r) =
+        (λ no-match. let lq : turned l v y q ≡ choose ruleInUse P (row P q) (turned l v y r) =
         meets .edge hr cr ∙ turn-fresh r q (turned l v y r) hr cr ne no-match in
         through-plain most P sound r q (turned l v y r) (turned l v y q) hr cr (turned-states r hr)
         (ap (through P (row P q) (turned l v y r)) lq
-        ∙ choose-reaches most P sound lowest lowest-rule q (turned l v y r))))
+        ∙ choose-reaches most P sound ruleInUse in-use q (turned l v y r))))
 
   module _ (w : ℕ) (hw : w < 2 ^ P .states) where
     -- the sets from a start set meet their equations
@@ -222,11 +222,11 @@ module _ (most : ℕ) (P : Column) (sound : Sound most P) where
             let my : Member w y = subst (λ z. Member z y) (ap (setsFrom P w) e ∙ sets-meet .root) m in
             let hy = member-within (P .states) w y hw my in
             record {
-              labels = labelFrom lowest P y;
-              states = label-states most P sound lowest lowest-rule y hy;
-              tight = label-tight most P sound lowest lowest-rule y hy;
-              root = subst (λ z. Member w z) (sym (label-meets most P sound lowest lowest-rule y .root)) my;
-              takes = ap (labelFrom lowest P y) e ∙ label-meets most P sound lowest lowest-rule y .root;
+              labels = labelFrom ruleInUse P y;
+              states = label-states most P sound ruleInUse in-use y hy;
+              tight = label-tight most P sound ruleInUse in-use y hy;
+              root = subst (λ z. Member w z) (sym (label-meets most P sound ruleInUse in-use y .root)) my;
+              takes = ap (labelFrom ruleInUse P y) e ∙ label-meets most P sound ruleInUse in-use y .root;
             })
 
     -- and each state that a tight labelling takes is in the set

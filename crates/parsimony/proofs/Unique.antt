@@ -7,7 +7,7 @@ use lib.Dec.{eqb}
 use Rattle.parsimony.specs.Barred.{plus}
 use Rattle.parsimony.specs.Column.{Column}
 use Rattle.parsimony.specs.Label.{choose, IsLabels, labelFrom}
-use Rattle.parsimony.specs.Least.{TieRule}
+use Rattle.parsimony.specs.Tie.{TieRule}
 use Rattle.parsimony.specs.NodeSet.{reaches, childSet, IsSets, setsFrom}
 use Rattle.parsimony.specs.Row.{through, row, IsRows}
 use Rattle.parsimony.specs.StateSet.{holds}

@@ -6,11 +6,12 @@ use mathlib.Core.Path.{_≡_}
 use Prim.Native.Nat.{ℕ, _+_, _*_, _^_, _<_, _≤_}
 use lib.ListN.{length, getD}
 use Rattle.parsimony.specs.Barred.{barred}
+use Rattle.parsimony.specs.Limits.{mostStates}
 
--- s is 2 to 16; the costs are s by s numbers, 0 to 999, and 0 on the diagonal
+-- s is 2 to 16, the most states; the costs are s by s numbers, 0 to 999, and 0 on the diagonal
 pub record CostRules (s : ℕ) (costs : List ℕ) : Type 0 where
   pub fewest : 2 ≤ s
-  pub most : s ≤ 16
+  pub most : s ≤ mostStates
   pub count : length costs ≡ s * s
   pub cheap : (i : ℕ) → i < s * s → getD costs i 0 ≤ 999
   pub stay : (x : ℕ) → x < s → getD costs (x * s + x) 0 ≡ 0

@@ -5,15 +5,14 @@ use mathlib.Core.Bool.{Bool, true}
 use mathlib.Core.List.{List, [], _∷_}
 use Prim.Native.Nat.{ℕ, suc}
 use lib.Dec.{eqb}
-use lib.ListN.{getD, length}
+use lib.ListN.{length}
 use Rattle.parsimony.specs.Column.{Column, columnOf}
 use Rattle.parsimony.specs.Counting.{countedAt}
 use Rattle.parsimony.specs.Label.{label, labelFrom}
-use Rattle.parsimony.specs.Least.{lowest}
 use Rattle.parsimony.specs.NodeSet.{sets, setsFrom}
 use Rattle.parsimony.specs.Row.{row, score}
-use Rattle.parsimony.specs.Table.{kidsAt}
 use Rattle.parsimony.specs.Test.{both}
+use Rattle.parsimony.specs.Tie.{ruleInUse}
 
 -- what an example claims of its column; a set is a number, bit x standing for state x
 pub data Claim : Type 0 where
@@ -70,7 +69,7 @@ claimHolds e (rowOf v r) = lists (e .s) (row (columnIn e) v) r
 claimHolds e (setOf v w) = eqb (sets (columnIn e) v) w
 claimHolds e (setsWith w ws) = lists (length (e .left)) (setsFrom (columnIn e) w) ws
 claimHolds e (labels xs) = lists (length (e .left)) (label (columnIn e)) xs
-claimHolds e (labelsWith x xs) = lists (length (e .left)) (labelFrom lowest (columnIn e) x) xs
+claimHolds e (labelsWith x xs) = lists (length (e .left)) (labelFrom ruleInUse (columnIn e) x) xs
 claimHolds e (prelimOf v w) = eqb (countedAt (e .left) (e .right) (e .c) (e .cells) (e .j) v .set) w
 claimHolds e (changes k) =
     eqb (countedAt (e .left) (e .right) (e .c) (e .cells) (e .j) (columnIn e .last) .changes) k

@@ -2,8 +2,9 @@
 -- Assumes nothing.
 use Prim.Native.Nat.{ℕ}
 use Rattle.parsimony.specs.Column.{Column}
-use Rattle.parsimony.specs.Least.{low, lowest}
+use Rattle.parsimony.specs.Least.{low}
 use Rattle.parsimony.specs.Row.{row, through}
+use Rattle.parsimony.specs.Tie.{ruleInUse}
 use Rattle.parsimony.specs.Tree.{descend, Descent}
 
 -- the choosing step: the state of a child with this row under a parent in state x, by the tie rule
@@ -24,7 +25,7 @@ unfoldable pub freeStart : Column → ℕ
 unfolding low row
 freeStart P = low (row P (P .last)) (P .states)
 
--- the labelling returned: from the free start, ties to the lowest
+-- the labelling returned: from the free start, by the tie rule in use
 unfoldable pub label : Column → ℕ → ℕ
-unfolding labelFrom freeStart lowest
-label P = labelFrom lowest P (freeStart P)
+unfolding labelFrom freeStart ruleInUse
+label P = labelFrom ruleInUse P (freeStart P)

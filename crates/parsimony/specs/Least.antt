@@ -1,6 +1,5 @@
--- The least value of a function over the numbers below a bound, where it is reached, and the rule among ties.
+-- The least value of a function over the numbers below a bound, and where it is reached.
 -- Assumes nothing.
-use mathlib.Core.Path.{_≡_}
 use Prim.Native.Nat.{ℕ, zero, suc, _≤_, _<_}
 use lib.Dec.{ltb}
 use Rattle.parsimony.specs.Test.{pick}
@@ -25,14 +24,3 @@ low f (suc n) = let m = low f n in pick (ltb (f n) (f m)) n m
 unfoldable pub least : (ℕ → ℕ) → ℕ → ℕ
 unfolding low
 least f s = f (low f s)
-
--- A tie rule, given s, the parent's state x and a function f, picks a number below s at which f is least.
--- It looks at nothing of f but its values below s.
-pub record TieRule (rule : ℕ → ℕ → (ℕ → ℕ) → ℕ) : Type 0 where
-  pub ties : (s x : ℕ) (f : ℕ → ℕ) → 0 < s → Least f s (rule s x f)
-  pub same : (s x : ℕ) (f g : ℕ → ℕ) → ((y : ℕ) → y < s → f y ≡ g y) → rule s x f ≡ rule s x g
-
--- the tie rule of this paper: the lowest, whatever the parent's state x
-unfoldable pub lowest : ℕ → ℕ → (ℕ → ℕ) → ℕ
-unfolding low
-lowest s x f = low f s

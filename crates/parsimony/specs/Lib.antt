@@ -4,7 +4,10 @@ pub mod Tells
 pub mod Test
 pub mod Sum
 pub mod Filled
+pub mod Limits
+pub mod Written
 pub mod Least
+pub mod Tie
 pub mod StateSet
 pub mod Barred
 pub mod Tree

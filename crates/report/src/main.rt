@@ -3,40 +3,34 @@
 ghost use mathlib.Core.Path.{_≡_};
 ghost use Prim.Native.Nat.{_≤_};
 ghost use lib.ListN.{length};
-ghost use Rattle.printer.specs.Page.{ReadyFrom};
-use costs::flat_costs;
-use lines::Fault;
-use printer::print_page;
-use printer::refusal_line;
-use reports::frame::columns_line;
-use reports::frame::total_line;
+ghost use Rattle.report_pages.specs.Page.{PrintableFrom};
+use parsimony::BARRED;
+use parsimony::Cell;
+use parsimony::MOST_NODES;
+use parsimony::NO_CHILD;
+use report_lines::frame::columns_line;
+use report_lines::frame::total_line;
+use report_pages::MOST_ENTRIES;
+use report_pages::MOST_LINE;
+use report_pages::print_page;
+use report_pages::refusal_line;
+use sheet::MOST_BYTES;
 use sheet::Read;
 use sheet::Sheet;
 use sheet::read_sheet;
+use sheet_costs::flat_costs;
+use sheet_lines::Fault;
+use sheet_lines::MOST_NAMES;
 
 const STANDARD_INPUT: i32 = 0;
 
 const STANDARD_OUTPUT: i32 = 1;
 
 // One byte more than a sheet may have, so that a longer one is known for that.
-const SHEET_ROOM: usize = 65537;
-
-const MOST_NAMES: usize = 512;
-
-const MOST_NODES: usize = 1023;
-
-// Four entries for each node.
-const MOST_ENTRIES: usize = 4092;
-
-const LINE_ROOM: usize = 1056;
+const SHEET_ROOM: usize = MOST_BYTES + 1;
 
 // What goes out in one write.
 const PAGE_ROOM: usize = 65536;
-
-// No child, and barred: what the lists are filled with.
-const NO_CHILD: u16 = 65535;
-
-const BARRED: u32 = 4294967295;
 
 // Writes the first bytes of a line.
 fn write_line(line: &[u8], size: usize)
@@ -54,14 +48,14 @@ fn write_refusal(fault: Fault) {
 
 // Writes the lines of all columns, page by page, and answers the total.
 fn write_columns(sheet: &[u8], s: Sheet, costs: &[u16], left: &[u16], right: &[u16]) -> usize
-    requires { ⌜ ReadyFrom (now sheet) s (now costs) (now left) (now right) 0 ⌝ }
+    requires { ⌜ PrintableFrom (now sheet) s (now costs) (now left) (now right) 0 ⌝ }
     requires { ⌜ (length (now left) ≡ 1023) × (length (now right) ≡ 1023) ⌝ }
 {
-    let mut cells = [0u16; MOST_NAMES];
+    let mut cells: [Cell; MOST_NAMES] = [0; MOST_NAMES];
     let mut states = [0u8; MOST_NODES];
-    let mut sets = [0u16; MOST_NODES];
+    let mut sets: [Cell; MOST_NODES] = [0; MOST_NODES];
     let mut rows = [BARRED; MOST_ENTRIES];
-    let mut line = [0u8; LINE_ROOM];
+    let mut line = [0u8; MOST_LINE];
     let mut page = [0u8; PAGE_ROOM];
     let mut next = 0;
     let mut total = 0;
@@ -91,7 +85,7 @@ fn write_columns(sheet: &[u8], s: Sheet, costs: &[u16], left: &[u16], right: &[u
 
 // Writes the report of a sound sheet.
 fn write_report(sheet: &[u8], s: Sheet, costs: &[u16], left: &[u16], right: &[u16])
-    requires { ⌜ ReadyFrom (now sheet) s (now costs) (now left) (now right) 0 ⌝ }
+    requires { ⌜ PrintableFrom (now sheet) s (now costs) (now left) (now right) 0 ⌝ }
     requires { ⌜ (length (now left) ≡ 1023) × (length (now right) ≡ 1023) ⌝ }
 {
     let mut line = [0u8; 64];

@@ -1,6 +1,3 @@
--- Laws of the calls, and that no second outcome meets their promises.
+-- What counting by sets answers.
 -- Assumes nothing.
-pub mod Outcomes
-pub mod LabelOutcomes
-pub mod AnswerLaws
 pub mod CountResult

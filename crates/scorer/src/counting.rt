@@ -1,11 +1,12 @@
 // Counting by sets in one column.
 ghost use mathlib.Core.List.{[]};
-ghost use Rattle.answers.specs.Input.{input};
-ghost use Rattle.scorer.specs.Promises.{CountedBySets};
-use crate::Counted;
-use answers::Answer;
-use counts::fill_prelims;
-use requests::count_tests;
+ghost use Rattle.promises.specs.Input.{enteredWith};
+ghost use Rattle.promises.specs.Promises.{CountedBySets};
+use call_tests::count_tests;
+use counts_up::fill_prelims;
+use parsimony::Cell;
+use promises::Valued;
+use table_tests::Tested;
 
 // Counting by sets: the preliminary set of each node in one column, and the number of changes.
 pub fn count(
@@ -14,17 +15,15 @@ pub fn count(
     s: usize,
     costs: &[u16],
     c: usize,
-    cells: &[u16],
+    cells: &[Cell],
     j: usize,
-    sets: &mut [u16],
-) -> Counted
-    ensures { λ r. ⌜ CountedBySets
-        (input (now (left .entry)) (now (right .entry)) s (now (costs .entry)) c (now (cells .entry)) []) j
-        (now (sets .entry)) r (now (sets .exit)) ⌝ }
+    sets: &mut [Cell],
+) -> Valued
+    ensures { λ r. ⌜ CountedBySets (enteredWith left right s costs c cells []) j (now (sets .entry)) r
+        (now (sets .exit)) ⌝ }
 {
-    let answer = count_tests(left, right, s, costs, c, cells, j, sets.len());
-    if let Answer::Refused(r) = answer {
-        return Counted::Refused(r);
+    match count_tests(left, right, s, costs, c, cells, j, sets.len()) {
+        Tested::Refused(r) => Valued::Refused(r),
+        Tested::Passed(_) => Valued::Done(fill_prelims(left, right, c, cells, j, sets)),
     }
-    Counted::Done(fill_prelims(left, right, c, cells, j, sets))
 }

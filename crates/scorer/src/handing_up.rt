@@ -1,9 +1,11 @@
 // Handing up: the root's row in one column.
-ghost use Rattle.answers.specs.Input.{input};
-ghost use Rattle.scorer.specs.Promises.{HandedUp};
-use answers::Answer;
-use requests::hand_up_tests;
-use works::row_column;
+ghost use Rattle.promises.specs.Input.{entered};
+ghost use Rattle.promises.specs.Promises.{HandedUp};
+use call_tests::hand_up_tests;
+use column_work::row_column;
+use parsimony::Cell;
+use promises::Answer;
+use table_tests::Tested;
 
 // Handing up: the root's row in one column.
 pub fn hand_up(
@@ -12,17 +14,16 @@ pub fn hand_up(
     s: usize,
     costs: &[u16],
     c: usize,
-    cells: &[u16],
+    cells: &[Cell],
     handed: &[u32],
     j: usize,
     row: &mut [u32],
     rows: &mut [u32],
 ) -> Answer
-    ensures { λ r. ⌜ HandedUp
-        (input (now (left .entry)) (now (right .entry)) s (now (costs .entry)) c (now (cells .entry))
-        (now (handed .entry))) j (now (row .entry)) (now (rows .entry)) r (now (row .exit)) (now (rows .exit)) ⌝ }
+    ensures { λ r. ⌜ HandedUp (entered left right s costs c cells handed) j (now (row .entry)) (now (rows .entry)) r
+        (now (row .exit)) (now (rows .exit)) ⌝ }
 {
-    let answer = hand_up_tests(
+    match hand_up_tests(
         left,
         right,
         s,
@@ -33,10 +34,11 @@ pub fn hand_up(
         j,
         row.len(),
         rows.len(),
-    );
-    if let Answer::Refused(r) = answer {
-        return Answer::Refused(r);
+    ) {
+        Tested::Refused(r) => Answer::Refused(r),
+        Tested::Passed(h) => {
+            row_column(left, right, s, costs, c, cells, h, handed, j, row, rows);
+            Answer::Done
+        }
     }
-    row_column(left, right, s, costs, c, cells, handed, j, row, rows);
-    Answer::Done
 }

@@ -1,10 +1,12 @@
 // Labelling: the state of each node in one column.
-ghost use Rattle.answers.specs.Input.{input};
-ghost use Rattle.scorer.specs.Promises.{Labelled};
-use answers::Answer;
-use answers::Start;
-use requests::label_tests;
-use works::label_column;
+ghost use Rattle.promises.specs.Input.{entered};
+ghost use Rattle.promises.specs.Promises.{Labelled};
+use call_tests::label_tests;
+use column_work::label_column;
+use parsimony::Cell;
+use promises::Answer;
+use promises::Start;
+use table_tests::Tested;
 
 // Labelling: the state of each node in one column, from a start.
 pub fn label(
@@ -13,19 +15,18 @@ pub fn label(
     s: usize,
     costs: &[u16],
     c: usize,
-    cells: &[u16],
+    cells: &[Cell],
     handed: &[u32],
     j: usize,
     start: Start,
     states: &mut [u8],
     rows: &mut [u32],
 ) -> Answer
-    ensures { λ r. ⌜ Labelled
-        (input (now (left .entry)) (now (right .entry)) s (now (costs .entry)) c (now (cells .entry))
-        (now (handed .entry))) j start (now (states .entry)) (now (rows .entry)) r
+    ensures { λ r. ⌜ Labelled (entered left right s costs c cells handed) j start (now (states .entry))
+        (now (rows .entry)) r
         (now (states .exit)) (now (rows .exit)) ⌝ }
 {
-    let answer = label_tests(
+    match label_tests(
         left,
         right,
         s,
@@ -37,22 +38,24 @@ pub fn label(
         start,
         states.len(),
         rows.len(),
-    );
-    if let Answer::Refused(r) = answer {
-        return Answer::Refused(r);
+    ) {
+        Tested::Refused(r) => Answer::Refused(r),
+        Tested::Passed(h) => {
+            label_column(
+                left,
+                right,
+                s,
+                costs,
+                c,
+                cells,
+                h,
+                handed,
+                j,
+                start,
+                states,
+                rows,
+            );
+            Answer::Done
+        }
     }
-    label_column(
-        left,
-        right,
-        s,
-        costs,
-        c,
-        cells,
-        handed,
-        j,
-        start,
-        states,
-        rows,
-    );
-    Answer::Done
 }

@@ -1,9 +1,11 @@
-// Scoring: the score of each column, and the column's rows in the row room.
-ghost use Rattle.answers.specs.Input.{input};
-ghost use Rattle.scorer.specs.Promises.{Scored};
-use answers::Answer;
-use requests::score_tests;
-use works::score_columns;
+// Scoring: the score of each column, and the last column's rows in the row room.
+ghost use Rattle.promises.specs.Input.{entered};
+ghost use Rattle.promises.specs.Promises.{Scored};
+use call_tests::score_tests;
+use column_work::score_columns;
+use parsimony::Cell;
+use promises::Answer;
+use table_tests::Tested;
 
 // Scoring: the score of each column.
 pub fn score(
@@ -12,16 +14,15 @@ pub fn score(
     s: usize,
     costs: &[u16],
     c: usize,
-    cells: &[u16],
+    cells: &[Cell],
     handed: &[u32],
     scores: &mut [u32],
     rows: &mut [u32],
 ) -> Answer
-    ensures { λ r. ⌜ Scored
-        (input (now (left .entry)) (now (right .entry)) s (now (costs .entry)) c (now (cells .entry))
-        (now (handed .entry))) (now (scores .entry)) (now (rows .entry)) r (now (scores .exit)) (now (rows .exit)) ⌝ }
+    ensures { λ r. ⌜ Scored (entered left right s costs c cells handed) (now (scores .entry)) (now (rows .entry)) r
+        (now (scores .exit)) (now (rows .exit)) ⌝ }
 {
-    let answer = score_tests(
+    match score_tests(
         left,
         right,
         s,
@@ -31,10 +32,11 @@ pub fn score(
         handed,
         scores.len(),
         rows.len(),
-    );
-    if let Answer::Refused(r) = answer {
-        return Answer::Refused(r);
+    ) {
+        Tested::Refused(r) => Answer::Refused(r),
+        Tested::Passed(h) => {
+            score_columns(left, right, s, costs, c, cells, h, handed, scores, rows);
+            Answer::Done
+        }
     }
-    score_columns(left, right, s, costs, c, cells, handed, scores, rows);
-    Answer::Done
 }

@@ -1,10 +1,12 @@
 // The set call: the set of each node in one column.
-ghost use Rattle.answers.specs.Input.{input};
-ghost use Rattle.scorer.specs.Promises.{SetsFound};
-use answers::Answer;
-use answers::Start;
-use requests::sets_tests;
-use works::set_column;
+ghost use Rattle.promises.specs.Input.{entered};
+ghost use Rattle.promises.specs.Promises.{SetsFound};
+use call_tests::sets_tests;
+use column_work::set_column;
+use parsimony::Cell;
+use promises::Answer;
+use promises::Start;
+use table_tests::Tested;
 
 // The set call: the set of each node in one column, from a start set.
 pub fn sets(
@@ -13,19 +15,18 @@ pub fn sets(
     s: usize,
     costs: &[u16],
     c: usize,
-    cells: &[u16],
+    cells: &[Cell],
     handed: &[u32],
     j: usize,
     start: Start,
-    sets: &mut [u16],
+    sets: &mut [Cell],
     rows: &mut [u32],
 ) -> Answer
-    ensures { λ r. ⌜ SetsFound
-        (input (now (left .entry)) (now (right .entry)) s (now (costs .entry)) c (now (cells .entry))
-        (now (handed .entry))) j start (now (sets .entry)) (now (rows .entry)) r
+    ensures { λ r. ⌜ SetsFound (entered left right s costs c cells handed) j start (now (sets .entry))
+        (now (rows .entry)) r
         (now (sets .exit)) (now (rows .exit)) ⌝ }
 {
-    let answer = sets_tests(
+    match sets_tests(
         left,
         right,
         s,
@@ -37,22 +38,24 @@ pub fn sets(
         start,
         sets.len(),
         rows.len(),
-    );
-    if let Answer::Refused(r) = answer {
-        return Answer::Refused(r);
+    ) {
+        Tested::Refused(r) => Answer::Refused(r),
+        Tested::Passed(h) => {
+            set_column(
+                left,
+                right,
+                s,
+                costs,
+                c,
+                cells,
+                h,
+                handed,
+                j,
+                start,
+                sets,
+                rows,
+            );
+            Answer::Done
+        }
     }
-    set_column(
-        left,
-        right,
-        s,
-        costs,
-        c,
-        cells,
-        handed,
-        j,
-        start,
-        sets,
-        rows,
-    );
-    Answer::Done
 }

@@ -1,10 +1,18 @@
 // The whole work on one column: its score, its labels and its sets.
-ghost use Rattle.answers.specs.Input.{input};
-ghost use Rattle.scorer.specs.Promises.{ColumnWorked};
-use crate::Work;
-use answers::Answer;
-use requests::work_tests;
-use works::fill_column;
+ghost use mathlib.Core.Path.{_≡_};
+ghost use Rattle.promises.specs.Input.{entered};
+ghost use Rattle.promises.specs.Promises.{ColumnWorked};
+use call_tests::work_tests;
+use column_work::fill_column;
+use parsimony::Cell;
+use promises::Valued;
+use table_tests::Tested;
+
+fn wide(score: u32) -> usize
+    ensures { λ r. ⌜ r ≡ score ⌝ }
+{
+    score as usize
+}
 
 // The whole work on one column: the score, and the state and the set of each node, from no start.
 pub fn work_column(
@@ -13,19 +21,18 @@ pub fn work_column(
     s: usize,
     costs: &[u16],
     c: usize,
-    cells: &[u16],
+    cells: &[Cell],
     handed: &[u32],
     j: usize,
     states: &mut [u8],
-    sets: &mut [u16],
+    sets: &mut [Cell],
     rows: &mut [u32],
-) -> Work
-    ensures { λ r. ⌜ ColumnWorked
-        (input (now (left .entry)) (now (right .entry)) s (now (costs .entry)) c (now (cells .entry))
-        (now (handed .entry))) j (now (states .entry)) (now (sets .entry)) (now (rows .entry)) r
+) -> Valued
+    ensures { λ r. ⌜ ColumnWorked (entered left right s costs c cells handed) j (now (states .entry))
+        (now (sets .entry)) (now (rows .entry)) r
         (now (states .exit)) (now (sets .exit)) (now (rows .exit)) ⌝ }
 {
-    let answer = work_tests(
+    match work_tests(
         left,
         right,
         s,
@@ -37,21 +44,21 @@ pub fn work_column(
         states.len(),
         sets.len(),
         rows.len(),
-    );
-    if let Answer::Refused(r) = answer {
-        return Work::Refused(r);
+    ) {
+        Tested::Refused(r) => Valued::Refused(r),
+        Tested::Passed(h) => Valued::Done(wide(fill_column(
+            left,
+            right,
+            s,
+            costs,
+            c,
+            cells,
+            h,
+            handed,
+            j,
+            states,
+            sets,
+            rows,
+        ))),
     }
-    Work::Done(fill_column(
-        left,
-        right,
-        s,
-        costs,
-        c,
-        cells,
-        handed,
-        j,
-        states,
-        sets,
-        rows,
-    ))
 }

@@ -3,10 +3,10 @@
 use mathlib.Core.List.{[], _∷_}
 use mathlib.Core.Path.{_≡_, refl}
 use Prim.Native.String.{String}
-use Rattle.costs.specs.Costs.{unitTable}
-use Rattle.lines.specs.Bytes.{bytes}
-use Rattle.lines.specs.declared.Fault.the-variants.{Sheet, Symbol, TreeText}
-use Rattle.tips.specs.Vine.{tip, pair}
+use Rattle.sheet_costs.specs.Costs.{unitTable}
+use Rattle.sheet_lines.specs.Bytes.{bytes}
+use Rattle.sheet_lines.specs.declared.Fault.the-variants.{Sheet, Symbol, TreeText}
+use Rattle.sheet_tips.specs.Vine.{tip, pair}
 use Rattle.sheet.specs.Judge.{Judged, sound, faulty, judge}
 use Rattle.sheet.specs.Table.{cellsOf}
 

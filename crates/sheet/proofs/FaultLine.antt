@@ -8,22 +8,22 @@ use native.Mathlib.Omega.{arith}
 use lib.Dec.{eqb, ltb}
 use lib.ListN.{length}
 use Rattle.parsimony.specs.Test.{pick}
-use Rattle.lines.specs.Count.{onPlace}
-use Rattle.lines.specs.Fault.{faultLine}
-use Rattle.lines.specs.Line.{lineOf}
-use Rattle.lines.specs.declared.Fault.{Fault}
-use Rattle.lines.specs.declared.Fault.the-variants.{Sheet, TreeText}
-use Rattle.lines.specs.declared.Place.{Place}
-use Rattle.lines.specs.declared.Place.the-variants.{At, Nowhere}
-use Rattle.tips.specs.Tip.{Parsed, got, noTree}
-use Rattle.tips.specs.Vine.{Vine}
-use Rattle.newick.specs.Parse.{lineTree}
-use Rattle.sections.specs.Sheet.{sheetOf}
-use Rattle.sections.specs.declared.Reading.{Reading}
-use Rattle.sections.specs.declared.Reading.the-variants.{Sound, Faulty}
-use Rattle.sections.specs.declared.Sections.{Sections}
-use Rattle.sections.proofs.FaultLines.{fault-line}
-use Rattle.sections.proofs.SheetLaws.{sheet-read}
+use Rattle.sheet_lines.specs.Count.{onPlace}
+use Rattle.sheet_lines.specs.Fault.{faultLine}
+use Rattle.sheet_lines.specs.Line.{lineEnd}
+use Rattle.sheet_lines.specs.declared.Fault.{Fault}
+use Rattle.sheet_lines.specs.declared.Fault.the-variants.{Sheet, TreeText}
+use Rattle.sheet_lines.specs.declared.Place.{Place}
+use Rattle.sheet_lines.specs.declared.Place.the-variants.{At, Nowhere}
+use Rattle.sheet_tips.specs.Tip.{Parsed, got, noTree}
+use Rattle.sheet_tips.specs.Vine.{Vine}
+use Rattle.sheet_tree.specs.Parse.{lineTree}
+use Rattle.sheet_sections.specs.Sheet.{sheetOf}
+use Rattle.sheet_sections.specs.declared.Reading.{Reading}
+use Rattle.sheet_sections.specs.declared.Reading.the-variants.{Sound, Faulty}
+use Rattle.sheet_sections.specs.declared.Sections.{Sections}
+use Rattle.sheet_sections.proofs.FaultLines.{fault-line}
+use Rattle.sheet_sections.proofs.SheetLaws.{sheet-read}
 use Rattle.sheet.specs.Judge.{Judged, sound, faulty, onReading, onTree, treeLine, judge}
 
 -- a fault is on a line up to 1,034
@@ -39,7 +39,7 @@ low-pick false x y f g = g
 module _ (sheet names : List ℕ) (costs : List (List ℕ)) (s : Sections) (line : s .line ≤ 1033) where
   tree-low : Low (treeLine sheet names costs s)
   unfolding treeLine onPlace onTree
-  tree-low = by-place (lineOf sheet (s .tree))
+  tree-low = by-place (lineEnd sheet (s .tree))
     where
       after : ℕ → Vine → Judged
       after end vine =
@@ -64,9 +64,8 @@ pub judge-line : (sheet : List ℕ) (f : Fault) → judge sheet ≡ faulty f →
 unfolding judge onReading
 judge-line sheet f h =
     subst Low h
-    (low-pick (ltb 65536 (length sheet)) (faulty (Sheet 0)) (onReading (sheetOf sheet .rest .reading) rest) (omega
-    arith)
-    (by-reading (sheetOf sheet .rest .reading) refl))
+    (low-pick (ltb 65536 (length sheet)) (faulty (Sheet 0)) (onReading (sheetOf sheet .rest .reading) rest)
+    (omega arith) (by-reading (sheetOf sheet .rest .reading) refl))
   where
     rest : Sections → Judged
     rest = treeLine sheet (sheetOf sheet .names) (sheetOf sheet .rest .costs)

@@ -10,24 +10,24 @@ use lib.ListN.{length, drop, take, drop-of-length-le}
 use lib.Seq.{take-append-seam, length-take-le}
 use Rattle.parsimony.specs.Test.{pick}
 use Rattle.parsimony.proofs.Order.{pick-true, pick-false}
-use Rattle.lines.specs.Count.{onPlace}
-use Rattle.lines.specs.Line.{lineOf}
-use Rattle.lines.specs.Section.{wrote}
-use Rattle.lines.specs.declared.Fault.{Fault}
-use Rattle.lines.specs.declared.Fault.the-variants.{Sheet, TreeText}
-use Rattle.lines.specs.declared.Place.the-variants.{At, Nowhere}
-use Rattle.tips.specs.Tip.{Parsed, noTree}
-use Rattle.tips.specs.Vine.{Vine, size}
-use Rattle.tips.specs.declared.Subtree.{Subtree}
-use Rattle.tips.specs.declared.Subtree.the-variants.{Tree, NoTree}
-use Rattle.newick.specs.Parse.{lineTree}
-use Rattle.newick.specs.Reading.{GotLine, GivesLineFor, GivesLine}
-use Rattle.sections.specs.Sheet.{GivesSheet, sheetOf}
-use Rattle.sections.specs.declared.Reading.{Reading}
-use Rattle.sections.specs.declared.Reading.the-variants.{Sound, Faulty}
-use Rattle.sections.specs.declared.Sections.{Sections}
-use Rattle.sections.proofs.SheetLaws.{sheet-read}
-use Rattle.sheet.specs.Gives.{Gives, GivesTree}
+use Rattle.sheet_lines.specs.Count.{onPlace}
+use Rattle.sheet_lines.specs.Line.{lineEnd}
+use Rattle.sheet_lines.specs.Section.{wrote}
+use Rattle.sheet_lines.specs.declared.Fault.{Fault}
+use Rattle.sheet_lines.specs.declared.Fault.the-variants.{Sheet, TreeText}
+use Rattle.sheet_lines.specs.declared.Place.the-variants.{At, Nowhere}
+use Rattle.sheet_tips.specs.Tip.{Parsed, noTree}
+use Rattle.sheet_tips.specs.Vine.{Vine}
+use Rattle.sheet_tips.specs.declared.Subtree.{Subtree}
+use Rattle.sheet_tips.specs.declared.Subtree.the-variants.{Tree, NoTree}
+use Rattle.sheet_tree.specs.Parse.{lineTree}
+use Rattle.sheet_tree.specs.Reading.{GotLine, GivesLineFor, GivesLine}
+use Rattle.sheet_sections.specs.Sheet.{GivesSections, sheetOf}
+use Rattle.sheet_sections.specs.declared.Reading.{Reading}
+use Rattle.sheet_sections.specs.declared.Reading.the-variants.{Sound, Faulty}
+use Rattle.sheet_sections.specs.declared.Sections.{Sections}
+use Rattle.sheet_sections.proofs.SheetLaws.{sheet-read}
+use Rattle.sheet.specs.Gives.{GivesSheet, GivesTree}
 use Rattle.sheet.specs.Judge.{Judged, sound, faulty, onReading, onTree, treeLine, judge}
 use Rattle.sheet.specs.declared.Read as Reads
 use Rattle.sheet.specs.declared.Read.the-variants as Answer
@@ -52,11 +52,11 @@ module _ (sheet names : List ℕ) (s : Sections) (left right left' right' : List
       (faulty (Sheet (s .line + 1)))
 
   abbrev afterLine : List (List ℕ) → ℕ → Judged
-  afterLine costs end = onTree (lineTree sheet names (s .tips) (s .tree) end) (faulty (TreeText (s .line)))
-      (afterTree costs end)
+  afterLine costs end =
+      onTree (lineTree sheet names (s .tips) (s .tree) end) (faulty (TreeText (s .line))) (afterTree costs end)
 
   -- no line: SHEET
-  pub no-line : lineOf sheet (s .tree) ≡ Nowhere
+  pub no-line : lineEnd sheet (s .tree) ≡ Nowhere
       → GivesTree sheet names s (Answer.Faulty (Sheet (s .line))) left right left' right'
   unfolding treeLine onPlace
   no-line none =
@@ -66,7 +66,7 @@ module _ (sheet names : List ℕ) (s : Sections) (left right left' right' : List
         };
       }
 
-  module _ (end : ℕ) (line : lineOf sheet (s .tree) ≡ At end) where
+  module _ (end : ℕ) (line : lineEnd sheet (s .tree) ≡ At end) where
     to-line : (costs : List (List ℕ)) → treeLine sheet names costs s ≡ afterLine costs end
     unfolding treeLine onPlace
     to-line costs = ap (λ p. onPlace p (faulty (Sheet (s .line))) (afterLine costs)) line
@@ -82,8 +82,8 @@ module _ (sheet names : List ℕ) (s : Sections) (left right left' right' : List
           };
         }
 
-    module _ (stop n : ℕ) (tree : GotLine (lineTree sheet names (s .tips) (s .tree) end) left right stop n left'
-        right') where
+    module _ (stop n : ℕ)
+        (tree : GotLine (lineTree sheet names (s .tips) (s .tree) end) left right stop n left' right') where
       to-tree : (costs : List (List ℕ)) → treeLine sheet names costs s ≡ afterTree costs end (tree .line .vine)
       unfolding onTree
       to-tree costs =
@@ -95,16 +95,15 @@ module _ (sheet names : List ℕ) (s : Sections) (left right left' right' : List
       more-after ne =
           record {
             tree = λ costs. record {
-              gives = to-tree costs ∙ pick-false _ _ (ne-eqb (end + 1) (length sheet)
-                  ne);
+              gives = to-tree costs ∙ pick-false _ _ (ne-eqb (end + 1) (length sheet) ne);
             };
           }
 
       -- and nothing: the sheet is sound
       pub whole-line : end + 1 ≡ length sheet
           → GivesTree sheet names s
-          (Answer.Sound (record { tips = s .tips; columns = s .columns; cells = s .cells; nodes = n })) left right
-          left' right'
+          (Answer.Sound (record { tips = s .tips; columns = s .columns; cells = s .cells; nodes = n }))
+          left right left' right'
       whole-line last =
           record {
             tree = λ costs. record {
@@ -130,7 +129,7 @@ module _ (sheet names : List ℕ) (s : Sections) (left right left' right' : List
 
 -- The sections' answer, and what it says.
 module _ (sheet : List ℕ) (answer : Reading) (names names₁ : List ℕ) (table table₁ : List (List ℕ))
-    (gives : GivesSheet (sheetOf sheet) answer names names₁ table table₁) where
+    (gives : GivesSections (sheetOf sheet) answer names names₁ table table₁) where
   module _ (s : Sections) (is : answer ≡ Sound s) where
     read : sheetOf sheet .rest .reading ≡ Sound s
     read = sym (gives .rest .said) ∙ is
@@ -166,7 +165,7 @@ module _ (sheet : List ℕ) (answer : Reading) (names names₁ : List ℕ) (tabl
 module _ (sheet : List ℕ) (left right left' right' : List ℕ) where
   -- a long sheet: SHEET, line 0
   pub sheet-long : (table' : List (List ℕ)) → 65536 < length sheet
-      → Gives (judge sheet) (Answer.Faulty (Sheet 0)) table' left right left' right'
+      → GivesSheet (judge sheet) (Answer.Faulty (Sheet 0)) table' left right left' right'
   unfolding judge
   sheet-long table' long = record { gives = pick-true _ _ (lt-ltb 65536 (length sheet) long) }
 
@@ -178,8 +177,8 @@ module _ (sheet : List ℕ) (left right left' right' : List ℕ) where
 
     -- a fault of the sections
     pub sheet-faulty : (f : Fault) (answer : Reading) (names names₁ : List ℕ) (table table₁ : List (List ℕ))
-        → GivesSheet (sheetOf sheet) answer names names₁ table table₁ → answer ≡ Faulty f
-        → Gives (judge sheet) (Answer.Faulty f) table₁ left right left' right'
+        → GivesSections (sheetOf sheet) answer names names₁ table table₁ → answer ≡ Faulty f
+        → GivesSheet (judge sheet) (Answer.Faulty f) table₁ left right left' right'
     unfolding onReading
     sheet-faulty f answer names names₁ table table₁ gives is =
         record {
@@ -191,9 +190,9 @@ module _ (sheet : List ℕ) (left right left' right' : List ℕ) where
     -- and what the tree line gives after sound ones
     pub sheet-tree : (s : Sections) (answer : Reading) (names names₁ places : List ℕ) (table table₁ : List (List ℕ))
         (r : Reads.Read)
-        → GivesSheet (sheetOf sheet) answer names names₁ table table₁ → answer ≡ Sound s → length table ≡ 4
+        → GivesSections (sheetOf sheet) answer names names₁ table table₁ → answer ≡ Sound s → length table ≡ 4
         → places ≡ take (s .tips) names₁ → GivesTree sheet places s r left right left' right'
-        → Gives (judge sheet) r table₁ left right left' right'
+        → GivesSheet (judge sheet) r table₁ left right left' right'
     unfolding onReading
     sheet-tree s answer names names₁ places table table₁ r gives is four same tree =
         let costs = sheetOf sheet .rest .costs in
@@ -203,13 +202,15 @@ module _ (sheet : List ℕ) (left right left' right' : List ℕ) where
         to-sections
         ∙ ap (λ a. onReading a (treeLine sheet (sheetOf sheet .names) costs)) (sym (gives .rest .said) ∙ is)
         ∙ ap (λ n. treeLine sheet n costs s) (sym at-names) in
-        subst (λ t. Gives (judge sheet) r t left right left' right') (sym priced)
-        (subst (λ j. Gives j r costs left right left' right') (sym told) (tree .tree costs))
+        subst (λ t. GivesSheet (judge sheet) r t left right left' right') (sym priced)
+        (subst (λ j. GivesSheet j r costs left right left' right') (sym told) (tree .tree costs))
 
 -- the first t of a list, as a part that is lent
 pub part-first : (l : List ℕ) (t : ℕ) → take (t - 0) (drop 0 l) ≡ take t l
 part-first l t = let same : t - 0 ≡ t = omega arith in ap (λ k. take k l) same
 
 pub part-long : (l : List ℕ) (t : ℕ) → t ≤ length l → t ≤ length (take (t - 0) (drop 0 l))
-part-long l t h = let long : length (take t l) ≡ t = length-take-le t l h in let same = ap length (part-first l t) in
+part-long l t h =
+    let long : length (take t l) ≡ t = length-take-le t l h in
+    let same = ap length (part-first l t) in
     omega arith

@@ -1,5 +1,4 @@
--- What a sound sheet has, in words: its names, cells, costs and tree keep their rules, and so does the table of each
--- column.
+-- What a sound sheet has, in words: its names, cells, costs and tree keep their rules, and so does each column's table.
 -- Assumes nothing.
 use mathlib.Core.Bool.{Bool, true, false}
 use mathlib.Core.List.{List}
@@ -12,21 +11,21 @@ use lib.ListN.{length}
 use Rattle.parsimony.specs.Table.{tips}
 use Rattle.parsimony.specs.Test.{pick}
 use Rattle.parsimony.proofs.Order.{pick-true, pick-false}
-use Rattle.lines.specs.Count.{onPlace}
-use Rattle.lines.specs.Line.{lineOf}
-use Rattle.lines.specs.declared.Fault.the-variants.{Sheet, TreeText}
-use Rattle.lines.specs.declared.Place.{Place}
-use Rattle.lines.specs.declared.Place.the-variants.{At, Nowhere}
-use Rattle.tips.specs.Tip.{Parsed, got, noTree}
-use Rattle.tips.specs.Vine.{Vine}
-use Rattle.newick.specs.Parse.{lineTree}
-use Rattle.sections.specs.Sheet.{sheetOf}
-use Rattle.sections.specs.declared.Reading.{Reading}
-use Rattle.sections.specs.declared.Reading.the-variants.{Sound, Faulty}
-use Rattle.sections.specs.declared.Sections.{Sections}
+use Rattle.sheet_lines.specs.Count.{onPlace}
+use Rattle.sheet_lines.specs.Line.{lineEnd}
+use Rattle.sheet_lines.specs.declared.Fault.the-variants.{Sheet, TreeText}
+use Rattle.sheet_lines.specs.declared.Place.{Place}
+use Rattle.sheet_lines.specs.declared.Place.the-variants.{At, Nowhere}
+use Rattle.sheet_tips.specs.Tip.{Parsed, got, noTree}
+use Rattle.sheet_tips.specs.Vine.{Vine}
+use Rattle.sheet_tree.specs.Parse.{lineTree}
+use Rattle.sheet_sections.specs.Sheet.{sheetOf}
+use Rattle.sheet_sections.specs.declared.Reading.{Reading}
+use Rattle.sheet_sections.specs.declared.Reading.the-variants.{Sound, Faulty}
+use Rattle.sheet_sections.specs.declared.Sections.{Sections}
 use Rattle.sheet.specs.Judge.{Contents, Judged, sound, faulty, onReading, onTree, treeLine, judge}
 
-faulty-sound : {f : Rattle.lines.specs.declared.Fault.Fault} {has : Contents} → faulty f ≡ sound has → ⊥
+faulty-sound : {f : Rattle.sheet_lines.specs.declared.Fault.Fault} {has : Contents} → faulty f ≡ sound has → ⊥
 faulty-sound e = let z : _≡_ {A = ℕ} 0 1 = cc in omega arith
 
 pub sound-same : {a b : Contents} → sound a ≡ sound b → a ≡ b
@@ -38,7 +37,7 @@ pub record SoundFrom (sheet : List ℕ) (has : Contents) : Type 0 where
   pub sections : Sections
   pub reading : sheetOf sheet .rest .reading ≡ Sound sections
   pub end : ℕ
-  pub line : lineOf sheet (sections .tree) ≡ At end
+  pub line : lineEnd sheet (sections .tree) ≡ At end
   pub stop : ℕ
   pub marks : List ℕ
   pub tree : lineTree sheet (sheetOf sheet .names) (sections .tips) (sections .tree) end ≡ got (has .vine) stop marks
@@ -61,7 +60,7 @@ sound-from sheet has h = by-length (ltb 65536 (length sheet)) refl h
     holds : Sections → Vine → Contents
     holds s vine = record { tips = s .tips; columns = s .columns; cells = s .cells; costs = costs; vine = vine }
 
-    by-end : (s : Sections) → sheetOf sheet .rest .reading ≡ Sound s → (end : ℕ) → lineOf sheet (s .tree) ≡ At end
+    by-end : (s : Sections) → sheetOf sheet .rest .reading ≡ Sound s → (end : ℕ) → lineEnd sheet (s .tree) ≡ At end
         → (vine : Vine) (e : ℕ) (m : List ℕ) → lineTree sheet names (s .tips) (s .tree) end ≡ got vine e m
         → length sheet ≤ 65536
         → (b : Bool) → eqb (end + 1) (length sheet) ≡ b
@@ -90,7 +89,7 @@ sound-from sheet has h = by-length (ltb 65536 (length sheet)) refl h
     after : Sections → ℕ → Vine → Judged
     after s end vine = pick (eqb (end + 1) (length sheet)) (sound (holds s vine)) (faulty (Sheet (s .line + 1)))
 
-    by-tree : (s : Sections) → sheetOf sheet .rest .reading ≡ Sound s → (end : ℕ) → lineOf sheet (s .tree) ≡ At end
+    by-tree : (s : Sections) → sheetOf sheet .rest .reading ≡ Sound s → (end : ℕ) → lineEnd sheet (s .tree) ≡ At end
         → length sheet ≤ 65536 → (p : Parsed) → lineTree sheet names (s .tips) (s .tree) end ≡ p
         → onTree p (faulty (TreeText (s .line))) (after s end) ≡ sound has → SoundFrom sheet has
     by-tree s reading end line short (got vine e m) tree g =
@@ -98,25 +97,24 @@ sound-from sheet has h = by-length (ltb 65536 (length sheet)) refl h
     by-tree s reading end line short noTree tree g = absurd (faulty-sound g)
 
     by-line : (s : Sections) → sheetOf sheet .rest .reading ≡ Sound s → length sheet ≤ 65536
-        → (p : Place) → lineOf sheet (s .tree) ≡ p
+        → (p : Place) → lineEnd sheet (s .tree) ≡ p
         → onPlace p (faulty (Sheet (s .line)))
-        (λ end. onTree (lineTree sheet names (s .tips) (s .tree) end) (faulty (TreeText (s .line))) (after s end)) ≡
-        sound has
-        → SoundFrom sheet has
-    by-line s reading short (At end) line g = by-tree s reading end line short (lineTree sheet names (s .tips) (s
-        .tree) end) refl g
+        (λ end. onTree (lineTree sheet names (s .tips) (s .tree) end) (faulty (TreeText (s .line))) (after s end))
+        ≡ sound has → SoundFrom sheet has
+    by-line s reading short (At end) line g =
+        by-tree s reading end line short (lineTree sheet names (s .tips) (s .tree) end) refl g
     by-line s reading short Nowhere line g = absurd (faulty-sound g)
 
     by-reading : length sheet ≤ 65536 → (r : Reading) → sheetOf sheet .rest .reading ≡ r
         → onReading r (treeLine sheet names costs) ≡ sound has → SoundFrom sheet has
-    by-reading short (Sound s) reading g = by-line s reading short (lineOf sheet (s .tree)) refl g
+    by-reading short (Sound s) reading g = by-line s reading short (lineEnd sheet (s .tree)) refl g
     by-reading short (Faulty f) reading g = absurd (faulty-sound g)
 
     whole : Judged
     whole = onReading (sheetOf sheet .rest .reading) (treeLine sheet names costs)
 
-    by-length : (b : Bool) → ltb 65536 (length sheet) ≡ b → pick b (faulty (Sheet 0)) whole ≡ sound has → SoundFrom
-        sheet has
+    by-length : (b : Bool) → ltb 65536 (length sheet) ≡ b → pick b (faulty (Sheet 0)) whole ≡ sound has
+        → SoundFrom sheet has
     by-length true y g = absurd (faulty-sound (sym (pick-true (faulty (Sheet 0)) whole refl) ∙ g))
     by-length false y g =
         by-reading (ltb-false 65536 (length sheet) y) (sheetOf sheet .rest .reading) refl

@@ -1,36 +1,36 @@
--- The table of a column of a sound sheet keeps the rules of tables.
+-- The table of a column of a sound sheet is allowed.
 -- Assumes nothing.
 use mathlib.Core.List.{List, [], _∷_, _++_}
-use mathlib.Core.Path.{_≡_, refl, ap, sym, _∙_, subst}
+use mathlib.Core.Path.{_≡_, ap, sym, _∙_, subst}
 use Prim.Native.Nat.{ℕ, zero, suc, _+_, _*_, _<_, _≤_}
 use native.Mathlib.Nat.{not-suc-le-zero, mul-one, zero-mul}
 use native.Mathlib.Omega.{arith}
 use lib.ListN.{length, getD, length-append, List·getD-append}
 use lib.Seq.{getD-append-add}
-use Rattle.parsimony.specs.Allowed.{CostRules, CellRules, HandedRules}
+use Rattle.parsimony.specs.Allowed.{CostRules, CellRules}
 use Rattle.parsimony.specs.Table.{symbol, handed, Legal}
 use Rattle.parsimony.proofs.FilledLaws.{list-long, list-at}
-use Rattle.answers.specs.CallRules.{tableRules}
-use Rattle.answers.specs.Input.{tipsIn}
-use Rattle.answers.specs.Rules.{All}
-use Rattle.cells.specs.IsRow.{rowAt}
-use Rattle.costs.specs.CostRules.{TableRules, Flat}
-use Rattle.costs.proofs.FlatLaws.{flat-rules}
-use Rattle.tips.specs.Nodes.{lefts, rights}
-use Rattle.newick.proofs.OnceLaws.{line-legal, line-tips, line-handed}
-use Rattle.sections.specs.Sheet.{sheetOf}
-use Rattle.sections.specs.SheetRead.{SheetRead}
-use Rattle.sections.proofs.SheetLaws.{sheet-read}
+use Rattle.promises.specs.CallRules.{Allowed}
+use Rattle.promises.specs.Input.{tipsIn}
+use Rattle.promises.proofs.RuleLaws.{none-handed}
+use Rattle.sheet_cells.specs.IsRow.{rowAt}
+use Rattle.sheet_costs.specs.CostRules.{TableRules, Flat}
+use Rattle.sheet_costs.proofs.FlatLaws.{flat-rules}
+use Rattle.sheet_tips.specs.Nodes.{lefts, rights}
+use Rattle.sheet_tree.proofs.OnceLaws.{line-legal, line-tips, line-handed}
+use Rattle.sheet_sections.specs.Sheet.{sheetOf}
+use Rattle.sheet_sections.specs.SheetRead.{SheetRead}
+use Rattle.sheet_sections.proofs.SheetLaws.{sheet-read}
 use Rattle.sheet.specs.Judge.{Contents}
 use Rattle.sheet.specs.Table.{flat, cellOf, cellsOf, tableOf}
-use Rattle.sheet.proofs.CellSteps.{code-of}
+use Rattle.sheet.proofs.CellSteps.{set-listed}
 use Rattle.sheet.proofs.SoundSheet.{SoundFrom}
-use Rattle.symbols.specs.Code.{codeOf}
-use Rattle.symbols.proofs.SymbolLaws.{symbol-set}
+use Rattle.sheet_symbols.specs.Code.{symbolSet}
+use Rattle.sheet_symbols.proofs.SymbolLaws.{symbol-set}
 
 -- the rows of four entries, one after the other
-flat-long : (rows : List (List ℕ)) → ((x : ℕ) → x < length rows → length (getD rows x []) ≡ 4) → length (flat rows) ≡
-    length rows * 4
+flat-long : (rows : List (List ℕ)) → ((x : ℕ) → x < length rows → length (getD rows x []) ≡ 4)
+    → length (flat rows) ≡ length rows * 4
 unfolding flat
 flat-long [] four = sym (zero-mul 4)
 flat-long (row ∷ rows) four =
@@ -39,9 +39,8 @@ flat-long (row ∷ rows) four =
     let whole = length-append row (flat rows) in
     omega arith
 
-flat-at : (rows : List (List ℕ)) → ((x : ℕ) → x < length rows → length (getD rows x []) ≡ 4) → (x y : ℕ) → x < length
-    rows
-    → y < 4 → getD (flat rows) (x * 4 + y) 0 ≡ getD (getD rows x []) y 0
+flat-at : (rows : List (List ℕ)) → ((x : ℕ) → x < length rows → length (getD rows x []) ≡ 4) → (x y : ℕ)
+    → x < length rows → y < 4 → getD (flat rows) (x * 4 + y) 0 ≡ getD (getD rows x []) y 0
 unfolding flat
 flat-at [] four x y h k = absurd (not-suc-le-zero h)
 flat-at (row ∷ rows) four zero y h k =
@@ -76,20 +75,18 @@ module _ (sheet : List ℕ) (has : Contents) (from : SoundFrom sheet has) where
   pub sheet-legal : Legal (lefts (has .vine) 0) (rights (has .vine) 0)
   sheet-legal =
       line-legal sheet (sheetOf sheet .names) (from .sections .tips) (from .sections .tree) (from .end) few named
-      (has .vine)
-      (from .stop) (from .marks) (from .tree)
+      (has .vine) (from .stop) (from .marks) (from .tree)
 
   sheet-tips : (j : ℕ) → tipsIn symbol (tableOf sheet has j) ≡ has .tips
   sheet-tips j =
-      line-tips sheet (sheetOf sheet .names) (from .sections .tips) (from .sections .tree) (from .end) few named (has
-      .vine)
-      (from .stop) (from .marks) (from .tree) ∙ sym (from .tips)
+      line-tips sheet (sheetOf sheet .names) (from .sections .tips) (from .sections .tree) (from .end) few named
+      (has .vine) (from .stop) (from .marks) (from .tree)
+      ∙ sym (from .tips)
 
   pub sheet-handed : (j : ℕ) → tipsIn handed (tableOf sheet has j) ≡ 0
   sheet-handed j =
       line-handed sheet (sheetOf sheet .names) (from .sections .tips) (from .sections .tree) (from .end) few named
-      (has .vine)
-      (from .stop) (from .marks) (from .tree)
+      (has .vine) (from .stop) (from .marks) (from .tree)
 
   -- its costs keep the rules
   pub sheet-costs : CostRules 4 (flat (has .costs))
@@ -99,8 +96,8 @@ module _ (sheet : List ℕ) (has : Contents) (from : SoundFrom sheet has) where
 
   -- the cell of row r and column j stands at its place and is a symbol's set
   pub sheet-cell : (j r : ℕ) → j < has .columns → r < has .tips
-      → (rowAt (has .cells) (has .columns) r + j < length sheet) × (1 ≤ cellOf sheet has j r) × (cellOf sheet has j r
-      ≤ 15)
+      → (rowAt (has .cells) (has .columns) r + j < length sheet) × (1 ≤ cellOf sheet has j r)
+      × (cellOf sheet has j r ≤ 15)
   unfolding cellOf
   sheet-cell j r hj hr =
       let place = rowAt (from .sections .cells) (from .sections .columns) r in
@@ -114,8 +111,8 @@ module _ (sheet : List ℕ) (has : Contents) (from : SoundFrom sheet has) where
       let byte = getD sheet (place + j) 0 in
       let most = plain .1 in
       let fits = symbol-set byte set (omega arith) is in
-      let code : codeOf (getD sheet (rowAt (has .cells) (has .columns) r + j) 0) ≡ set =
-      ap (λ k. codeOf (getD sheet (k + j) 0)) same ∙ code-of byte set is in
+      let code : symbolSet (getD sheet (rowAt (has .cells) (has .columns) r + j) 0) ≡ set =
+      ap (λ k. symbolSet (getD sheet (k + j) 0)) same ∙ set-listed byte set is in
       let inside = row .line .inside in
       let low = fits .0 in
       let high = fits .1 in
@@ -138,15 +135,12 @@ module _ (sheet : List ℕ) (has : Contents) (from : SoundFrom sheet has) where
             omega arith;
       })
 
-  -- The table of column j keeps the rules 1 to 5.
-  pub sheet-rules : (j : ℕ) → j < has .columns → All (tableRules (tableOf sheet has j) [])
-  sheet-rules j hj =
-      let none = sheet-handed j in
-      let no-rows : HandedRules 4 1 0 [] =
-      record { count = refl; range = λ i h. absurd (omega arith); unbarred = λ i h. absurd (omega arith) } in (
-        sheet-legal .size,
-        (
-          sheet-legal .tree,
-          (sheet-costs, (sheet-cells j hj, (subst (λ h. HandedRules 4 1 h []) (sym none) no-rows, tt))),
-        ),
-      )
+  -- the table of column j is allowed
+  pub sheet-allowed : (j : ℕ) → j < has .columns → Allowed (tableOf sheet has j)
+  sheet-allowed j hj =
+      record {
+        legal = sheet-legal;
+        costs = sheet-costs;
+        cells = sheet-cells j hj;
+        handed = none-handed 4 1 (tipsIn handed (tableOf sheet has j)) (sheet-handed j);
+      }

@@ -4,8 +4,8 @@ use mathlib.Core.List.{List}
 use mathlib.Core.Path.{_≡_}
 use Prim.Native.Nat.{ℕ, _+_, _<_}
 use lib.ListN.{length, getD}
-use Rattle.cells.specs.IsRow.{rowAt}
-use Rattle.symbols.specs.Code.{codeOf}
+use Rattle.sheet_cells.specs.IsRow.{rowAt}
+use Rattle.sheet_symbols.specs.Code.{symbolSet}
 
 -- the cells of column j, in t rows of c columns from a place on, stand in the sheet
 pub record Inside (sheet : List ℕ) (t c at j : ℕ) : Type 0 where
@@ -14,4 +14,4 @@ pub record Inside (sheet : List ℕ) (t c at j : ℕ) : Type 0 where
 -- of 512 entries, the first t are the sets of those cells
 pub record Filled (sheet : List ℕ) (c at j t : ℕ) (cells : List ℕ) : Type 0 where
   pub long : length cells ≡ 512
-  pub cell : (r : ℕ) → r < t → getD cells r 0 ≡ codeOf (getD sheet (rowAt at c r + j) 0)
+  pub cell : (r : ℕ) → r < t → getD cells r 0 ≡ symbolSet (getD sheet (rowAt at c r + j) 0)

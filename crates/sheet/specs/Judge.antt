@@ -5,17 +5,17 @@ use Prim.Native.Nat.{ℕ, _+_}
 use lib.Dec.{eqb, ltb}
 use lib.ListN.{length}
 use Rattle.parsimony.specs.Test.{pick}
-use Rattle.lines.specs.Count.{onPlace}
-use Rattle.lines.specs.Line.{lineOf}
-use Rattle.lines.specs.declared.Fault.{Fault}
-use Rattle.lines.specs.declared.Fault.the-variants.{Sheet, TreeText}
-use Rattle.tips.specs.Tip.{Parsed, got, noTree}
-use Rattle.tips.specs.Vine.{Vine}
-use Rattle.newick.specs.Parse.{lineTree}
-use Rattle.sections.specs.Sheet.{sheetOf}
-use Rattle.sections.specs.declared.Reading.{Reading}
-use Rattle.sections.specs.declared.Reading.the-variants.{Sound, Faulty}
-use Rattle.sections.specs.declared.Sections.{Sections}
+use Rattle.sheet_lines.specs.Count.{onPlace}
+use Rattle.sheet_lines.specs.Line.{lineEnd}
+use Rattle.sheet_lines.specs.declared.Fault.{Fault}
+use Rattle.sheet_lines.specs.declared.Fault.the-variants.{Sheet, TreeText}
+use Rattle.sheet_tips.specs.Tip.{Parsed, got, noTree}
+use Rattle.sheet_tips.specs.Vine.{Vine}
+use Rattle.sheet_tree.specs.Parse.{lineTree}
+use Rattle.sheet_sections.specs.Sheet.{sheetOf}
+use Rattle.sheet_sections.specs.declared.Reading.{Reading}
+use Rattle.sheet_sections.specs.declared.Reading.the-variants.{Sound, Faulty}
+use Rattle.sheet_sections.specs.declared.Sections.{Sections}
 
 -- what a sound sheet holds: the number of tips and of columns, the place of its first cell, its cost table and its tree
 pub record Contents : Type 0 where
@@ -40,13 +40,12 @@ unfoldable pub onTree : Parsed → Judged → (Vine → Judged) → Judged
 onTree (got vine e marks) none go = go vine
 onTree noTree none go = none
 
--- The tree line, after the sections: its bytes and line end (SHEET), its text (TREE TEXT), and then nothing more
--- (SHEET on
--- the next line).
+-- The tree line, after the sections: its bytes and line end, or SHEET; its text, or TREE TEXT; and nothing after it, or
+-- SHEET on the next line.
 unfoldable pub treeLine : List ℕ → List ℕ → List (List ℕ) → Sections → Judged
-unfolding pick onPlace onTree lineOf lineTree
+unfolding pick onPlace onTree lineEnd lineTree
 treeLine sheet names costs s =
-    onPlace (lineOf sheet (s .tree)) (faulty (Sheet (s .line)))
+    onPlace (lineEnd sheet (s .tree)) (faulty (Sheet (s .line)))
     (λ end. onTree (lineTree sheet names (s .tips) (s .tree) end) (faulty (TreeText (s .line)))
     (λ vine. pick (eqb (end + 1) (length sheet))
     (sound (record { tips = s .tips; columns = s .columns; cells = s .cells; costs = costs; vine = vine }))

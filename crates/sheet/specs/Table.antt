@@ -4,10 +4,10 @@ use mathlib.Core.List.{List, [], _∷_, _++_}
 use Prim.Native.Nat.{ℕ, _+_}
 use lib.ListN.{getD}
 use Rattle.parsimony.specs.Filled.{listOf}
-use Rattle.answers.specs.Input.{Input, input}
-use Rattle.cells.specs.IsRow.{rowAt}
-use Rattle.tips.specs.Nodes.{lefts, rights}
-use Rattle.symbols.specs.Code.{codeOf}
+use Rattle.promises.specs.Input.{Input, input}
+use Rattle.sheet_cells.specs.IsRow.{rowAt}
+use Rattle.sheet_tips.specs.Nodes.{lefts, rights}
+use Rattle.sheet_symbols.specs.Code.{symbolSet}
 use Rattle.sheet.specs.Judge.{Contents}
 
 -- the rows of a table in one list, one after the other
@@ -17,8 +17,8 @@ flat (row ∷ rows) = row ++ flat rows
 
 -- the cell of row r and column j: the set of states of its symbol
 unfoldable pub cellOf : List ℕ → Contents → ℕ → ℕ → ℕ
-unfolding codeOf
-cellOf sheet has j r = codeOf (getD sheet (rowAt (has .cells) (has .columns) r + j) 0)
+unfolding symbolSet
+cellOf sheet has j r = symbolSet (getD sheet (rowAt (has .cells) (has .columns) r + j) 0)
 
 -- the cells of column j, row by row
 unfoldable pub cellsOf : List ℕ → Contents → ℕ → List ℕ

@@ -3,19 +3,22 @@ ghost use mathlib.Core.Path.{_≡_};
 ghost use Prim.Native.Nat.{_≤_};
 ghost use lib.ListN.{length};
 ghost use Rattle.sheet.specs.Cells.{Inside, Filled};
-ghost use Rattle.sheet.specs.Gives.{Gives, GivesTree};
+ghost use Rattle.sheet.specs.Gives.{GivesSheet, GivesTree};
 ghost use Rattle.sheet.specs.Judge.{judge};
-ghost use Rattle.symbols.specs.Code.{codeOf};
-use lines::Fault;
-use lines::Place;
-use lines::line_end;
-use newick::tree_line;
-use sections::Reading;
-use sections::Sections;
-use sections::read_sections;
-use symbols::Symbol;
-use symbols::symbol_of;
-use tips::Subtree;
+ghost use Rattle.sheet_symbols.specs.Code.{symbolSet};
+use parsimony::Cell;
+use parsimony::MOST_NODES;
+use sheet_lines::Fault;
+use sheet_lines::MOST_NAMES;
+use sheet_lines::Place;
+use sheet_lines::line_end;
+use sheet_sections::Reading;
+use sheet_sections::Sections;
+use sheet_sections::read_sections;
+use sheet_symbols::Symbol;
+use sheet_symbols::symbol_of;
+use sheet_tips::Subtree;
+use sheet_tree::tree_line;
 
 // What a sound sheet has: the number of tips, columns and nodes, and the place of its first cell.
 pub struct Sheet {
@@ -31,11 +34,8 @@ pub enum Read {
     Faulty(Fault),
 }
 
-const MOST_BYTES: usize = 65536;
-
-const MOST_NAMES: usize = 512;
-
-const MOST_NODES: usize = 1023;
+// How many bytes a sheet may have.
+pub const MOST_BYTES: usize = 65536;
 
 // The tree line at a place, and nothing after it: the number of its nodes.
 fn read_tree_line(
@@ -81,7 +81,7 @@ pub fn read_sheet(
 ) -> Read
     requires { ⌜ (512 ≤ length (now names)) × (length (now table) ≡ 4) ⌝ }
     requires { ⌜ (length (now left) ≡ 1023) × (length (now right) ≡ 1023) ⌝ }
-    ensures { λ r. ⌜ Gives (judge (now (sheet .entry))) r (now (table .exit))
+    ensures { λ r. ⌜ GivesSheet (judge (now (sheet .entry))) r (now (table .exit))
         (now (left .entry)) (now (right .entry)) (now (left .exit)) (now (right .exit)) ⌝ }
 {
     if MOST_BYTES < sheet.len() {
@@ -98,8 +98,8 @@ pub fn read_sheet(
 }
 
 // The set of states of a cell's symbol.
-fn cell_of(byte: u8) -> u16
-    ensures { λ r. ⌜ r ≡ codeOf byte ⌝ }
+fn cell_of(byte: u8) -> Cell
+    ensures { λ r. ⌜ r ≡ symbolSet byte ⌝ }
 {
     match symbol_of(byte) {
         Symbol::States(set) => set,
@@ -114,7 +114,7 @@ pub fn put_cells(
     c: usize,
     at: usize,
     j: usize,
-    cells: &mut [u16; MOST_NAMES],
+    cells: &mut [Cell; MOST_NAMES],
 )
     requires { ⌜ (t ≤ 512) × (c ≤ 65535) × Inside (now sheet) t c at j × (length (now cells) ≡ 512) ⌝ }
     ensures { λ _. ⌜ Filled (now (sheet .entry)) c at j t (now (cells .exit)) ⌝ }

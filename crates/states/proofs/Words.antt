@@ -24,7 +24,11 @@ pub shifted-tells : (w x : ℕ) → Tells (Member w x) (eqb (bitAnd (w / 2 ^ x) 
 unfolding bit
 shifted-tells w x = subst (λ k. Tells (bit w x ≡ 1) (eqb k 1)) (sym (and-mask (w / 2 ^ x) 1)) (eqb-tells (bit w x) 1)
 
--- a one shifted by x within the width k is the set of state x
+-- a one shifted by x within the width k is a power of two,
+pub shifted-power : (k x : ℕ) → x < k → 1 * 2 ^ x % 2 ^ k ≡ 2 ^ x
+shifted-power k x h = ap (λ m. m % 2 ^ k) (one-mul (2 ^ x)) ∙ mod-eq-of-lt (pow-lt h)
+
+-- and the set of state x
 pub shifted-one : (k x : ℕ) → x < k → 1 * 2 ^ x % 2 ^ k ≡ one x
 unfolding one
-shifted-one k x h = ap (λ m. m % 2 ^ k) (one-mul (2 ^ x)) ∙ mod-eq-of-lt (pow-lt h)
+shifted-one k x h = shifted-power k x h

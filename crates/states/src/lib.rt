@@ -1,11 +1,13 @@
-// Sets of states as the bits of a 16-bit number: bit x stands for state x.
+// Sets of states as the bits of a cell: bit x stands for state x.
 ghost use mathlib.Core.Path.{_≡_};
-ghost use Prim.Native.Nat.{_<_};
+ghost use Prim.Native.Nat.{_^_, _<_};
+ghost use Rattle.parsimony.specs.Limits.{mostStates, cellBits};
 ghost use Rattle.parsimony.specs.StateSet.{Member, Lowest, one, union, common, size};
 ghost use Rattle.parsimony.specs.Tells.{Tells};
+use parsimony::Cell;
 
 // A set of states.
-pub struct States(pub u16);
+pub struct States(pub Cell);
 
 impl States {
     // The empty set.
@@ -15,7 +17,7 @@ impl States {
 
     // The set of state x alone.
     pub fn one(x: usize) -> States
-        requires { ⌜ x < 16 ⌝ }
+        requires { ⌜ x < mostStates ⌝ }
         ensures { λ r. ⌜ r .0 ≡ one x ⌝ }
     {
         States(1 << x)
@@ -37,7 +39,7 @@ impl States {
 
     // How many states the set has.
     pub fn count(self) -> u32
-        ensures { λ r. ⌜ r ≡ size 16 (self .0) ⌝ }
+        ensures { λ r. ⌜ r ≡ size cellBits (self .0) ⌝ }
     {
         u16::count_ones(self.0)
     }
@@ -52,9 +54,17 @@ impl States {
 
     // State x is in the set.
     pub fn has(self, x: usize) -> bool
-        requires { ⌜ x < 16 ⌝ }
+        requires { ⌜ x < mostStates ⌝ }
         ensures { λ r. ⌜ Tells (Member (self .0) x) r ⌝ }
     {
         self.0 >> x & 1 == 1
     }
+}
+
+// A number as the set of states that it is.
+pub fn cell_of(set: usize) -> Cell
+    requires { ⌜ set < 2 ^ cellBits ⌝ }
+    ensures { λ r. ⌜ r ≡ set ⌝ }
+{
+    set as Cell
 }

@@ -4,12 +4,11 @@ use mathlib.Core.Path.{sym, ap, _∙_, subst}
 use Prim.Native.Nat.{_<_}
 use native.Mathlib.Omega.{arith}
 use borrow.Author.Needs.{needs}
-use Rattle.answers.specs.Answers.{carriedBy}
-use Rattle.answers.specs.declared.Answer.the-variants.{Refused}
+use Rattle.promises.specs.Answers.{carriedBy, answerOf, valueOf}
+use Rattle.promises.specs.declared.Answer.the-variants.{Refused}
 use Rattle.calls.proofs.CodeLaws.{count-done, count-refused}
 use Rattle.calls.proofs.count_code.Statement.{statement}
 use Rattle.calls.specs.Coded.{countCode}
-use Rattle.scorer.specs.Counts.{answerOf, changesOf}
 use Rattle.calls.proofs.count_code.Tie as tie
 
 enum-known-counted : tie.Need-enum-known-counted
@@ -18,7 +17,7 @@ enum-known-counted c = search needs
 mul-result : tie.Need-mul-result
 mul-result c =
     let start = c .before .before .before in
-    let small = subst (λ a. changesOf a < 72057594037927936) (c .before .counted .given .1) (start .pre .1) in
+    let small = subst (λ a. valueOf a < 72057594037927936) (c .before .counted .given .1) (start .pre .1) in
     omega arith
 
 enum-known-counted-2 : tie.Need-enum-known-counted-2

@@ -2,8 +2,8 @@
 -- Assumes nothing.
 use native.Mathlib.Omega.{arith}
 use borrow.Author.Needs.{needs}
-use Rattle.answers.specs.Input.{Input, input}
-use Rattle.codes.proofs.CodeLaws.{carried-small}
+use Rattle.promises.specs.Input.{Input, input}
+use Rattle.answer_codes.proofs.CodeLaws.{carried-small}
 use Rattle.calls.proofs.fernijster_hand_up.Statement.{statement}
 use Rattle.calls.proofs.fernijster_hand_up.Tie as tie
 

@@ -2,9 +2,9 @@
 -- Assumes nothing.
 use native.Mathlib.Omega.{arith}
 use borrow.Author.Needs.{needs}
-use Rattle.answers.specs.Input.{Input, input}
-use Rattle.scorer.specs.Promises.{SetsFound}
-use Rattle.codes.proofs.CodeLaws.{carried-small}
+use Rattle.promises.specs.Input.{Input, input}
+use Rattle.promises.specs.Promises.{SetsFound}
+use Rattle.answer_codes.proofs.CodeLaws.{carried-small}
 use Rattle.calls.proofs.CodeLaws.{promise-from}
 use Rattle.calls.proofs.fernijster_sets.Statement.{statement}
 use Rattle.calls.proofs.fernijster_sets.Tie as tie

@@ -1,7 +1,7 @@
 -- `fernijster_column` meets its contract, case by case: the fault of the sheet, no such column, the line.
 -- Assumes nothing.
 use Rattle.sheet.proofs.FaultLine.{judge-line}
-use Rattle.printer.proofs.ReadLaws.{read-long, read-ready, read-fault}
+use Rattle.report_pages.proofs.ReadLaws.{read-long, read-printable, read-fault}
 use Rattle.exchange.proofs.EntrySteps.{entry-fault, read-which}
 use mathlib.Core.Path.{refl, sym}
 use native.Mathlib.Omega.{arith}
@@ -57,7 +57,7 @@ give-line-requires c κs =
     let c3 = c2 .before .before in
     let c4 = c3 .before .before .before in
     let given2 = c3 .s .given .1 in (
-      read-ready _ _ _ _ _ _ _ _ (c4 .read-sheet .ensures) given2 _ _ refl refl (c1 .flat-costs .ensures)
+      read-printable _ _ _ _ _ _ _ _ (c4 .read-sheet .ensures) given2 _ _ refl refl (c1 .flat-costs .ensures)
           (c2 .if1 .left),
       (
         read-long _ _ _ _ _ _ _ _ (c4 .read-sheet .ensures) (c3 .s .given .1) .0,

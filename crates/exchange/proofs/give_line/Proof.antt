@@ -1,6 +1,6 @@
 -- `give_line` meets its contract: the line is printed, and put where it fits.
 -- Assumes nothing.
-use Rattle.printer.proofs.PageSteps.{printed-inside}
+use Rattle.report_pages.proofs.PageSteps.{printed-inside}
 use Rattle.exchange.proofs.EntrySteps.{give-room, give-done}
 use mathlib.Core.Path.{refl}
 use native.Mathlib.Omega.{arith}

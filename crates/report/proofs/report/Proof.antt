@@ -1,6 +1,6 @@
 -- `report` meets its contract: what the reader leaves may be printed.
 -- Assumes nothing.
-use Rattle.printer.proofs.ReadLaws.{read-long, read-from}
+use Rattle.report_pages.proofs.ReadLaws.{read-long, read-from}
 use mathlib.Core.Path.{refl, sym}
 use borrow.Author.Needs.{needs}
 use Rattle.report.proofs.report.Statement.{statement}

@@ -1,7 +1,7 @@
--- `report::write_columns` meets its contract. The invariant: the rooms keep their length, and next is within the
--- columns. The measure is the number of columns left.
+-- `write_columns` meets its contract. The invariant: the rooms keep their length, and next is within the columns. The
+-- measure is the number of columns left.
 -- Assumes nothing.
-use Rattle.printer.proofs.PageSteps.{from-next, page-next}
+use Rattle.report_pages.proofs.PageSteps.{from-next, page-next}
 use lib.ListN.{length}
 use Prim.Native.Nat.{_≤_, _-_, _*_}
 use mathlib.Core.Path.{_≡_, refl, sym, _∙_}

@@ -1,6 +1,6 @@
 -- `write_refusal` meets its contract: the line lies in its room.
 -- Assumes nothing.
-use Rattle.reports.proofs.LineSteps.{starts-inside}
+use Rattle.report_lines.proofs.LineSteps.{starts-inside}
 use borrow.Author.Needs.{needs}
 use Rattle.report.proofs.write_refusal.Statement.{statement}
 use Rattle.report.proofs.write_refusal.Tie as tie

@@ -1,6 +1,6 @@
 -- `write_report` meets its contract: the first and the last line lie in their room.
 -- Assumes nothing.
-use Rattle.reports.proofs.LineSteps.{starts-inside}
+use Rattle.report_lines.proofs.LineSteps.{starts-inside}
 use borrow.Author.Needs.{needs}
 use Rattle.report.proofs.write_report.Statement.{statement}
 use Rattle.report.proofs.write_report.Tie as tie

@@ -1,6 +1,6 @@
 -- `sheet::cell_of` meets its contract.
 -- Assumes nothing.
-use Rattle.sheet.proofs.CellSteps.{code-of, code-none}
+use Rattle.sheet.proofs.CellSteps.{set-listed, set-unlisted}
 use mathlib.Core.Path.{sym, _∙_}
 use borrow.Author.Needs.{needs}
 use Rattle.sheet.proofs.cell_of.Statement.{statement}
@@ -16,10 +16,10 @@ enum-told : tie.Need-enum-told
 enum-told c = search needs
 
 returns : tie.Need-returns
-returns c = sym (code-of _ _ (sym (c .before .before .before .symbol-of .ensures) ∙ c .before .set .given .1))
+returns c = sym (set-listed _ _ (sym (c .before .before .before .symbol-of .ensures) ∙ c .before .set .given .1))
 
 returns-2 : tie.Need-returns-2
-returns-2 c = sym (code-none _ (sym (c .before .before .symbol-of .ensures) ∙ c .enum-told .given .1))
+returns-2 c = sym (set-unlisted _ (sym (c .before .before .symbol-of .ensures) ∙ c .enum-told .given .1))
 
 pub cell-of-spec : {M : Type 1} → statement M
 cell-of-spec = tie.close (tie.spec symbol-of-requires enum-known-set enum-told returns returns-2)

@@ -1,11 +1,9 @@
--- `sheet::put_cells` meets its contract. The invariant: the cells of the rows below r are put. The measure is the
--- number of rows left.
+-- `sheet::put_cells` meets its contract. The invariant: the cells of the rows below r are put.
+-- The measure is the number of rows left.
 -- Assumes nothing.
 use Rattle.sheet.proofs.CellSteps.{filled-none, filled-more, filled-few}
 use Rattle.sheet.specs.Cells.{Filled}
-use lib.ListN.{length, length-set}
 use Prim.Native.Nat.{_≤_, _-_}
-use mathlib.Core.Path.{_≡_}
 use native.Mathlib.Omega.{arith}
 use borrow.Author.Needs.{needs}
 use Rattle.sheet.proofs.put_cells.Statement.{statement}
@@ -25,8 +23,8 @@ add-cell-of c = search needs
 
 mul-cell-of : tie.Need-mul-cell-of Inv-loop μ-loop
 mul-cell-of c = record {
-  fits = (let i = c .before .before .before .pre .2 .cell _ (c .loop-test .taken) in let g = c
-      .before .before .before .good .0 .0 in omega arith);
+  fits = (let i = c .before .before .before .pre .2 .cell _ (c .loop-test .taken) in let g =
+      c .before .before .before .good .0 .0 in omega arith);
 }
 
 add-cell-of-2 : tie.Need-add-cell-of-2 Inv-loop μ-loop
@@ -51,8 +49,8 @@ mul-cells : tie.Need-mul-cells Inv-loop μ-loop
 mul-cells c = search needs
 
 element-write-cells : tie.Need-element-write-cells Inv-loop μ-loop
-element-write-cells c = (let l = c .before .before .loop-test .taken in let few = c .before .before .before .before
-    .before .pre .0 in omega arith)
+element-write-cells c = (let l = c .before .before .loop-test .taken in let few =
+    c .before .before .before .before .before .pre .0 in omega arith)
 
 add-r : tie.Need-add-r Inv-loop μ-loop
 add-r c = search needs
@@ -63,8 +61,8 @@ loop-less c = search needs
 loop-again : tie.Need-loop-again Inv-loop μ-loop
 loop-again c = (
   let l = c .before .before .loop-test .taken in omega arith,
-  filled-more _ _ _ _ _ _ _ (let l = c
-      .before .before .loop-test .taken in let few = c .before .before .before .before .before .pre .0 in omega arith)
+  filled-more _ _ _ _ _ _ _ (let l = c .before .before .loop-test .taken in let few =
+      c .before .before .before .before .before .pre .0 in omega arith)
       (c .cell-of .ensures) (c .before .before .before .loop .inv .1),
 )
 

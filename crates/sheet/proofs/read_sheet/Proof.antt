@@ -37,9 +37,8 @@ part-read-tree-line-end c =
     let c1 = c .before .before in
     let c2 = c1 .before .before .before .before in
     let start = c2 .before .before .before .before .before .before in
-    (let few = sections-few _ _ _ _ _ _ (c2
-    .read-sections .ensures) _ (c1 .s .given
-    .1) in let long = start .pre .0 .0 in let same = c2 .read-sections .kept .1 .0 in omega arith)
+    (let few = sections-few _ _ _ _ _ _ (c2 .read-sections .ensures) _ (c1 .s .given .1) in let long = start .pre .0 .0
+    in let same = c2 .read-sections .kept .1 .0 in omega arith)
 
 read-tree-line-requires : tie.Need-read-tree-line-requires
 read-tree-line-requires c κs =
@@ -49,11 +48,8 @@ read-tree-line-requires c κs =
       (
         sections-few _ _ _ _ _ _ (c2 .read-sections .ensures) _ (c1 .s .given .1),
         part-long _
-            _ (let few = sections-few _ _ _ _ _ _ (c2
-            .read-sections .ensures) _ (c1 .s .given .1) in let long = start
-            .pre .0 .0 in let same = c2
-            .read-sections
-            .kept .1 .0 in omega arith),
+            _ (let few = sections-few _ _ _ _ _ _ (c2 .read-sections .ensures) _ (c1 .s .given .1) in let long =
+            start .pre .0 .0 in let same = c2 .read-sections .kept .1 .0 in omega arith),
         start .pre .1 .0,
         start .pre .1 .1,
       ),
@@ -80,8 +76,8 @@ returns-3 c =
     let c3 = c2 .before .before .before in
     let start = c3 .before .before .before in
     sheet-tree _ _ _ _ _ (c3 .if1 .left) _ _ _ _ _ _ _ _ (c2 .read-sections .ensures) (c1 .s .given .1)
-    (start .pre .0 .1) (part-first (c2 .read-sections .last .1 .0) (c1 .s .given
-    .0 .0 .tips)) (c .read-tree-line .ensures)
+    (start .pre .0 .1) (part-first (c2 .read-sections .last .1 .0) (c1 .s .given .0 .0 .tips))
+    (c .read-tree-line .ensures)
 
 pub read-sheet-spec : {M : Type 1} → statement M
 read-sheet-spec =

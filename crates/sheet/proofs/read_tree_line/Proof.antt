@@ -1,6 +1,6 @@
 -- `sheet::read_tree_line` meets its contract, case by case.
 -- Assumes nothing.
-use Rattle.lines.proofs.LineLaws.{line-read}
+use Rattle.sheet_lines.proofs.LineLaws.{line-read}
 use native.Mathlib.Numerals.{add-one-le}
 use native.Mathlib.Nat.{lt-of-le-of-lt}
 use Rattle.sheet.proofs.ReadSteps.{line-tree, line-no-tree, no-line, no-tree, more-after, whole-line}
@@ -35,8 +35,8 @@ returns-2 c =
     let c1 = c .before .before in
     let c2 = c1 .before .before .before .before in
     let c3 = c2 .before .before in
-    no-tree _ _ _ _ _ _ _ _ (sym (c3
-    .line-end .ensures) ∙ c2 .end .given .1) (line-no-tree (c1 .tree-line .ensures) (c .enum-told2 .given .1))
+    no-tree _ _ _ _ _ _ _ _ (sym (c3 .line-end .ensures) ∙ c2 .end .given .1)
+    (line-no-tree (c1 .tree-line .ensures) (c .enum-told2 .given .1))
 
 add-if1 : tie.Need-add-if1
 add-if1 c =
@@ -57,9 +57,8 @@ returns-3 c =
     let c2 = c1 .before .before in
     let c3 = c2 .before .before .before .before in
     let c4 = c3 .before .before in
-    more-after _ _ _ _ _ _ _ _ (sym (c4 .line-end .ensures) ∙ c3 .end
-    .given .1) _ _ (line-tree _ _ (c2 .tree-line .ensures) (c1 .nodes
-    .given .1)) (c .if1 .taken)
+    more-after _ _ _ _ _ _ _ _ (sym (c4 .line-end .ensures) ∙ c3 .end .given .1) _ _
+    (line-tree _ _ (c2 .tree-line .ensures) (c1 .nodes .given .1)) (c .if1 .taken)
 
 returns-4 : tie.Need-returns-4
 returns-4 c =
@@ -67,9 +66,8 @@ returns-4 c =
     let c2 = c1 .before .before in
     let c3 = c2 .before .before .before .before in
     let c4 = c3 .before .before in
-    whole-line _ _ _ _ _ _ _ _ (sym (c4 .line-end .ensures) ∙ c3 .end
-    .given .1) _ _ (line-tree _ _ (c2 .tree-line .ensures) (c1 .nodes
-    .given .1)) (c .if1 .left)
+    whole-line _ _ _ _ _ _ _ _ (sym (c4 .line-end .ensures) ∙ c3 .end .given .1) _ _
+    (line-tree _ _ (c2 .tree-line .ensures) (c1 .nodes .given .1)) (c .if1 .left)
 
 pub read-tree-line-spec : {M : Type 1} → statement M
 read-tree-line-spec =

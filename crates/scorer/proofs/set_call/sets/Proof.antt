@@ -1,33 +1,32 @@
 -- `sets` meets its contract: a refusal of the tests leaves all as it was, and else the column's sets are written.
 -- Assumes nothing.
-use mathlib.Core.Path.{refl}
+use mathlib.Core.Path.{refl, subst}
+use Rattle.table_tests.specs.Tested.{Tests}
 use borrow.Author.Needs.{needs}
-use Rattle.answers.proofs.RuleLaws.{done-all}
-use Rattle.scorer.proofs.AnswerLaws.{given-same}
 use Rattle.scorer.proofs.set_call.sets.Statement.{statement}
 use Rattle.scorer.proofs.set_call.sets.Tie as tie
 
 sets-tests-requires : tie.Need-sets-tests-requires
 sets-tests-requires c κs = search needs
 
-enum-known-answer : tie.Need-enum-known-answer
-enum-known-answer c = search needs
+enum-known-r : tie.Need-enum-known-r
+enum-known-r c = search needs
 
-returns : tie.Need-returns
-returns c =
-    let c1 = c .before .before .before in
-    let sets-tests = c1 .sets-tests in
-    record { answer = given-same (sets-tests .ensures) (c .before .answer .given .1); lists = (refl, refl) }
-
-enum-told : tie.Need-enum-told
-enum-told c = search needs
+enum-known-h : tie.Need-enum-known-h
+enum-known-h c = search needs
 
 set-column-requires : tie.Need-set-column-requires
 set-column-requires c κs =
-    let c1 = c .before .before in
-    let c2 = c1 .before .before in
-    let sets-tests = c2 .sets-tests in
-    done-all _ _ _ _ (sets-tests .ensures) (c1 .enum-told .given .1)
+    let passing = c .before .before .before .h in
+    let sets-tests = c .before .before .before .before .before .sets-tests in
+    let passed = subst (Tests _ _) (passing .given .1) (sets-tests .ensures) .tests in
+    (passed .all, passed .tips)
+
+returns : tie.Need-returns
+returns c =
+    let sets-tests = c .before .before .before .sets-tests in
+    let refused = subst (Tests _ _) (c .before .r .given .1) (sets-tests .ensures) .tests in
+    record { answer = refused; lists = (refl, refl) }
 
 same-length : tie.Need-same-length
 same-length c = search needs
@@ -37,23 +36,21 @@ same-length-2 c = search needs
 
 returns-2 : tie.Need-returns-2
 returns-2 c =
-    let c1 = c .before .before .before .before in
-    let c2 = c1 .before .before .before in
-    let c3 = c2 .before .before in
-    let set-column = c1 .set-column in
-    let enum-told = c2 .enum-told in
-    let sets-tests = c3 .sets-tests in
-    record { answer = given-same (sets-tests .ensures) (enum-told .given .1); lists = set-column .ensures }
+    let passing = c .before .before .before .before .before .before .before .before .h in
+    let sets-tests = c .before .before .before .before .before .before .before .before .before .before .sets-tests in
+    let set-column = c .before .before .before .before .set-column in
+    let passed = subst (Tests _ _) (passing .given .1) (sets-tests .ensures) .tests in
+    record { answer = record { given = passed .all }; lists = set-column .ensures }
 
 pub sets-spec : {M : Type 1} → statement M
 sets-spec =
     tie.close
     (tie.spec
     sets-tests-requires
-    enum-known-answer
-    returns
-    enum-told
+    enum-known-r
+    enum-known-h
     set-column-requires
+    returns
     same-length
     same-length-2
     returns-2)

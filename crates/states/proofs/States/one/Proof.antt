@@ -2,6 +2,7 @@
 -- Assumes nothing.
 use borrow.Author.Needs.{needs}
 use Rattle.states.proofs.Words.{shifted-one}
+use Rattle.parsimony.specs.Limits.{cellBits}
 use Rattle.states.proofs.States.one.Statement.{statement}
 use Rattle.states.proofs.States.one.Tie as tie
 
@@ -12,7 +13,7 @@ shl-t3 : tie.Need-shl-t3
 shl-t3 c = search needs
 
 returns : tie.Need-returns
-returns c = shifted-one 16 (c .args .x) (c .pre)
+returns c = shifted-one cellBits (c .args .x) (c .pre)
 
 pub one-spec : {M : Type 1} → statement M
 one-spec = tie.close (tie.spec cast-t2 shl-t3 returns)

@@ -1,4 +1,0 @@
--- Laws of the answers.
--- Assumes nothing.
-pub mod RuleLaws
-pub mod RootLaws

@@ -1,0 +1,3 @@
+-- Laws of the test of room.
+-- Assumes nothing.
+pub mod RoomLaws

@@ -1,6 +1,0 @@
--- Laws of rows, and of the loops that fill them.
--- Assumes nothing.
-pub mod LeastSteps
-pub mod WroteLaws
-pub mod LaneLaws
-pub mod CellLaws

@@ -1,3 +1,0 @@
--- What a node passes on to its children, over the steps.
--- Assumes nothing.
-pub mod Passed

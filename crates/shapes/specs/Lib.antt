@@ -1,4 +1,0 @@
--- What the test of a tree says, over the definitions of `parsimony` and `uses`.
--- Assumes nothing.
-pub mod Found
-pub mod Visit

@@ -1,3 +1,0 @@
--- What the marks of uses say.
--- Assumes nothing.
-pub mod Marks
