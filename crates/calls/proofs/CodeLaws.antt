@@ -21,11 +21,11 @@ use Rattle.answer_codes.proofs.CodeLaws.{packed-number, packed-carried, number-
 use Rattle.calls.specs.Coded.{countCode}
 
 -- the code of a count, and of a refusal of set counting
-pub count-done : (k : ℕ) → 256 * k ≡ packed 0 (0 + k)
-count-done k = omega arith
+pub done-code : (k : ℕ) → 256 * k ≡ packed 0 (0 + k)
+done-code k = omega arith
 
-pub count-refused : (a : Answer) → answerCode a ≡ packed (numberOf a) (carriedBy a + 0)
-count-refused a = omega arith
+pub refused-code : (a : Answer) → answerCode a ≡ packed (numberOf a) (carriedBy a + 0)
+refused-code a = omega arith
 
 -- packing loses nothing: the number, and the change count or SHAPE's node, are read back
 pub count-number : (a : Valued) → countCode a % 256 ≡ numberOf (answerOf a)

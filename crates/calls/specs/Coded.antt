@@ -5,7 +5,6 @@ use mathlib.Core.Path.{_≡_}
 use Prim.Native.Nat.{ℕ, _+_}
 use Rattle.promises.specs.Answers.{numberOf, carriedBy, answerOf, valueOf}
 use Rattle.promises.specs.Input.{Input}
-use Rattle.promises.specs.declared.Answer.{Answer}
 use Rattle.promises.specs.declared.Start.{Start}
 use Rattle.promises.specs.Promises.{Scored, Labelled, SetsFound, HandedUp, CountedBySets}
 use Rattle.promises.specs.declared.Valued.{Valued}
@@ -15,29 +14,26 @@ use Rattle.answer_codes.specs.Codes.{packed, answerCode}
 abbrev pub countCode : Valued → ℕ
 countCode a = packed (numberOf (answerOf a)) (carriedBy (answerOf a) + valueOf a)
 
-pub record ScoredCode (I : Input) (scores rows : List ℕ) (code : ℕ) (scores' rows' : List ℕ) : Type 0 where
-  pub answer : Answer
-  pub packed : code ≡ answerCode answer
-  pub promise : Scored I scores rows answer scores' rows'
+-- the code of a call: some answer meets the promise, and the code is that answer packed
+pub record Coded {A : Type 0} (pack : A → ℕ) (Promise : A → Type 0) (code : ℕ) : Type 0 where
+  pub answer : A
+  pub packed : code ≡ pack answer
+  pub promise : Promise answer
 
-pub record LabelledCode (I : Input) (j : ℕ) (start : Start) (states rows : List ℕ) (code : ℕ) (states' rows' : List ℕ)
-    : Type 0 where
-  pub answer : Answer
-  pub packed : code ≡ answerCode answer
-  pub promise : Labelled I j start states rows answer states' rows'
+-- the code of scoring, of labelling, of the set call, of handing up and of set counting
+abbrev pub ScoredCode : Input → List ℕ → List ℕ → ℕ → List ℕ → List ℕ → Type 0
+ScoredCode I scores rows code scores' rows' = Coded answerCode (λ a. Scored I scores rows a scores' rows') code
 
-pub record SetsCode (I : Input) (j : ℕ) (start : Start) (sets rows : List ℕ) (code : ℕ) (sets' rows' : List ℕ)
-    : Type 0 where
-  pub answer : Answer
-  pub packed : code ≡ answerCode answer
-  pub promise : SetsFound I j start sets rows answer sets' rows'
+abbrev pub LabelledCode : Input → ℕ → Start → List ℕ → List ℕ → ℕ → List ℕ → List ℕ → Type 0
+LabelledCode I j start states rows code states' rows' =
+    Coded answerCode (λ a. Labelled I j start states rows a states' rows') code
 
-pub record HandedUpCode (I : Input) (j : ℕ) (row rows : List ℕ) (code : ℕ) (row' rows' : List ℕ) : Type 0 where
-  pub answer : Answer
-  pub packed : code ≡ answerCode answer
-  pub promise : HandedUp I j row rows answer row' rows'
+abbrev pub SetsCode : Input → ℕ → Start → List ℕ → List ℕ → ℕ → List ℕ → List ℕ → Type 0
+SetsCode I j start sets rows code sets' rows' =
+    Coded answerCode (λ a. SetsFound I j start sets rows a sets' rows') code
 
-pub record CountCode (I : Input) (j : ℕ) (sets : List ℕ) (code : ℕ) (sets' : List ℕ) : Type 0 where
-  pub answer : Valued
-  pub packed : code ≡ countCode answer
-  pub promise : CountedBySets I j sets answer sets'
+abbrev pub HandedUpCode : Input → ℕ → List ℕ → List ℕ → ℕ → List ℕ → List ℕ → Type 0
+HandedUpCode I j row rows code row' rows' = Coded answerCode (λ a. HandedUp I j row rows a row' rows') code
+
+abbrev pub CountCode : Input → ℕ → List ℕ → ℕ → List ℕ → Type 0
+CountCode I j sets code sets' = Coded countCode (λ a. CountedBySets I j sets a sets') code

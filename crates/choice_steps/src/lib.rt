@@ -1,12 +1,12 @@
 // The choosing step and the set step, each on any rows lent to it: the state that is taken, and all that may be.
 // A row of s entries lies in the list of rows from a place on; row x of the cost table from place x * s on.
 ghost use mathlib.Core.Path.{_≡_};
-ghost use Prim.Native.Nat.{ℕ, _+_, _*_, _<_, _≤_};
-ghost use lib.ListN.{length, getD};
+ghost use Prim.Native.Nat.{_+_, _*_, _<_, _≤_};
+ghost use lib.ListN.{length};
 ghost use Rattle.parsimony.specs.Least.{low, least};
 ghost use Rattle.parsimony.specs.Limits.{mostStates};
 ghost use Rattle.parsimony.specs.Tie.{ruleInUse};
-ghost use Rattle.row_step.specs.Lane.{entryAt, lane, Calm, Cheap};
+ghost use Rattle.row_step.specs.Lane.{entryAt, lane, Calm, Cheap, CheapTable};
 ghost use Rattle.choice_steps.specs.Ties.{reached, reachedUnder, leastSet};
 use parsimony::Cell;
 use row_step::least_up;
@@ -16,7 +16,7 @@ use states::States;
 // The choosing step: the state of a child under a parent in state x, by the tie rule in use. Of the states that reach
 // the least it is the lowest.
 pub fn choose(costs: &[u16], x: usize, rows: &[u32], at: usize, s: usize) -> usize
-    requires { ⌜ (length (now costs) ≡ s * s) × ((i : ℕ) → i < s * s → getD (now costs) i 0 ≤ 999) ⌝ }
+    requires { ⌜ CheapTable (now costs) s ⌝ }
     requires { ⌜ Calm (now rows) at s ⌝ }
     requires { ⌜ (x < s) × (s ≤ mostStates) ⌝ }
     ensures { λ r. ⌜ r ≡ ruleInUse s x (lane (now (costs .entry)) (x * s) (now (rows .entry)) at) ⌝ }
@@ -98,7 +98,7 @@ fn reach_set(costs: &[u16], from: usize, rows: &[u32], at: usize, s: usize) -> S
 
 // The set step: the states of a child that reach the least under some state of its parent's set.
 pub fn child_set(costs: &[u16], rows: &[u32], at: usize, s: usize, parent: Cell) -> Cell
-    requires { ⌜ (length (now costs) ≡ s * s) × ((i : ℕ) → i < s * s → getD (now costs) i 0 ≤ 999) ⌝ }
+    requires { ⌜ CheapTable (now costs) s ⌝ }
     requires { ⌜ Calm (now rows) at s ⌝ }
     requires { ⌜ (0 < s) × (s ≤ mostStates) ⌝ }
     ensures { λ r. ⌜ r ≡ reachedUnder (now (costs .entry)) (now (rows .entry)) at s parent s ⌝ }

@@ -70,12 +70,12 @@ module _ (I : Input) (table : Allowed I) (j : ℕ) (inside : j < I .c) where
         l (labelFrom ruleInUse col x) down (label-meets mostHanded col sound ruleInUse in-use x)
 
     -- so the states written down from the root's are the labelling from the start
-    pub labels-right : (start : Start) {states states' : List ℕ} → StateStart I j start
+    pub states-walked : (start : Start) {states states' : List ℕ} → StateStart I j start
         → WalkedDown (nodes I) (kidsAt (I .left) (I .right)) (chosen (I .s) (I .costs) rows)
         (startOr start (low (entryAt rows ((nodes I - 1) * I .s)) (I .s))) states states'
         → StatesOf I j start states states'
     unfolding columnOf
-    labels-right start {states' = states'} may down =
+    states-walked start {states' = states'} may down =
         let free = ap (startOr start) (start-is I table j rows held) in
         let from = subst (λ x. Descent (nodes I - 1) (kidsAt (I .left) (I .right)) (chosen (I .s) (I .costs) rows) x
         (entries states')) free (down .right) in
@@ -95,12 +95,12 @@ module _ (I : Input) (table : Allowed I) (j : ℕ) (inside : j < I .c) where
         S (setsFrom col w) down (sets-meet mostHanded col sound w hw)
 
     -- so the sets written down from the root's are the sets from the start
-    pub sets-right : (start : Start) {sets sets' : List ℕ} → SetStart I j start
+    pub sets-walked : (start : Start) {sets sets' : List ℕ} → SetStart I j start
         → WalkedDown (nodes I) (kidsAt (I .left) (I .right)) (settled (I .s) (I .costs) rows)
         (startOr start (leastSet rows ((nodes I - 1) * I .s) (I .s) (I .s))) sets sets'
         → SetsOf I j start sets sets'
     unfolding columnOf
-    sets-right start {sets' = sets'} may down =
+    sets-walked start {sets' = sets'} may down =
         let free = ap (startOr start) (start-set-is I table j rows held) in
         let from = subst (λ w. Descent (nodes I - 1) (kidsAt (I .left) (I .right)) (settled (I .s) (I .costs) rows) w
         (entries sets')) free (down .right) in
@@ -110,10 +110,10 @@ module _ (I : Input) (table : Allowed I) (j : ℕ) (inside : j < I .c) where
         (sets-are _ (entries sets') within from v (omega arith)))
 
     -- the root's row copied out is the row that is handed up
-    pub row-right : {out out' : List ℕ} → Wrote 0 (I .s) (entryAt rows ((nodes I - 1) * I .s)) out out'
+    pub row-copied : {out out' : List ℕ} → Wrote 0 (I .s) (entryAt rows ((nodes I - 1) * I .s)) out out'
         → Written (below (I .s)) (Each (I .s) (IsEntry col)) out out'
     unfolding columnOf
-    row-right {out' = out'} w =
+    row-copied {out' = out'} w =
         record {
           right = λ x hx. entry-right I table j inside x (entries out' x) hx
               (ap (entries out') (sym (zero-add x)) ∙ w .right x hx ∙ root-entry I table j rows held x hx);

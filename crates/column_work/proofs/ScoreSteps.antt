@@ -7,7 +7,7 @@ use native.Mathlib.Omega.{arith}
 use lib.ListN.{length, set}
 use Rattle.parsimony.specs.Labelling.{IsScore}
 use Rattle.parsimony.specs.Written.{Written, entries, below, Each}
-use Rattle.parsimony.proofs.WrittenLaws.{each-none, each-more}
+use Rattle.parsimony.proofs.WrittenLaws.{entries-none, entries-more}
 use Rattle.promises.specs.CallWrites.{ScoresWritten}
 use Rattle.promises.specs.Input.{Input, nodes, column}
 use Rattle.promises.specs.RowRoom.{Worked}
@@ -23,7 +23,7 @@ pub record ScoresTo (I : Input) (j : ℕ) (scores rows scores' rows' : List ℕ)
 pub scores-none : (I : Input) (scores rows : List ℕ) → ScoresTo I 0 scores rows scores rows
 scores-none I scores rows =
     record {
-      each = each-none (λ i. IsScore (column I i)) scores;
+      each = entries-none (λ i. IsScore (column I i)) scores;
       long = refl;
       none = λ e. refl;
       last = λ i e. absurd (omega arith);
@@ -41,7 +41,7 @@ pub scores-more : (I : Input) (j k : ℕ) (scores rows scores' rows' next : List
     → ScoresTo I (j + 1) scores rows (set scores' j k) next
 scores-more I j k scores rows scores' rows' next t h right worked =
     record {
-      each = each-more (λ i. IsScore (column I i)) j k scores scores' (t .each) h right;
+      each = entries-more (λ i. IsScore (column I i)) j k scores scores' (t .each) h right;
       long = worked .long ∙ t .long;
       none = λ e. absurd (omega arith);
       last = λ i e. let same : i ≡ j = omega arith in

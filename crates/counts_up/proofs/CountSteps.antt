@@ -19,7 +19,7 @@ use Rattle.parsimony.proofs.LegalLaws.{legal-rooted}
 use Rattle.parsimony.proofs.Order.{pick-true, pick-false, at-same, at-other}
 use Rattle.parsimony.proofs.Sums.{sum-zero, sum-suc, sum-same, sum-le}
 use Rattle.parsimony.proofs.TipLaws.{sum-ones, at-le}
-use Rattle.parsimony.proofs.WrittenLaws.{each-none, each-more}
+use Rattle.parsimony.proofs.WrittenLaws.{entries-none, entries-more}
 
 -- the change counted at a node, by its children,
 change-at : (set : ℕ → ℕ) (k : Kids) → merge k 0 change set ≡ changeAt set k
@@ -59,12 +59,12 @@ module _ (left right : List ℕ) (c : ℕ) (cells : List ℕ) (j : ℕ) where
 
   -- no set is written at the start
   pub sets-none : (l : List ℕ) → SetsTo left right c cells j 0 l l
-  sets-none l = each-none (λ u w. w ≡ setOf u) l
+  sets-none l = entries-none (λ u w. w ≡ setOf u) l
 
   -- one node's more
   pub sets-more : {v x : ℕ} {before now : List ℕ} → SetsTo left right c cells j v before now → v < length now
       → x ≡ setOf v → SetsTo left right c cells j (v + 1) before (set now v x)
-  sets-more w h e = each-more (λ u w. w ≡ setOf u) _ _ _ _ w h e
+  sets-more w h e = entries-more (λ u w. w ≡ setOf u) _ _ _ _ w h e
 
   -- at the end all n nodes'
   pub sets-all : {v n : ℕ} {before now : List ℕ} → SetsTo left right c cells j v before now → v ≡ n

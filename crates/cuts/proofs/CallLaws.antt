@@ -47,7 +47,7 @@ module _ (I : Input) (table : Allowed I) (j : ℕ) (inside : j < I .c) where
   hand-up-row e call x h =
       let a = rules-answer I table .handUp j _ _ inside (call .room) (call .answer) (call .promise .answer) in
       let written = done-promise call a .lists in
-      call .result x h ∙ entry-meant I table j inside x _ h (written .each .right x h)
+      call .result x h ∙ entry-meant I table j inside x _ h (written .output .right x h)
 
   -- what a call of scoring leaves is the score
   pub score-of : (S : ℕ → ℕ) → ScoreCall I S → S j ≡ score P
@@ -63,7 +63,7 @@ module _ (I : Input) (table : Allowed I) (j : ℕ) (inside : j < I .c) where
       let a = rules-answer I table .label j start _ _ inside ok (call .room) (call .answer) (call .promise .answer) in
       let written = done-promise call a .lists in
       call .result v h
-      ∙ label-meant I table j inside start (entries (call .outputAfter)) ok (written .labels .right) v h
+      ∙ label-meant I table j inside start (entries (call .outputAfter)) ok (written .output .right) v h
 
   -- what a call for the sets leaves are the sets by rows
   pub sets-of : (start : Start) (S : ℕ → ℕ) → SetStart I j start → SetsCall I j start S
@@ -71,4 +71,4 @@ module _ (I : Input) (table : Allowed I) (j : ℕ) (inside : j < I .c) where
   sets-of start S ok call v h =
       let a = rules-answer I table .sets j start _ _ inside ok (call .room) (call .answer) (call .promise .answer) in
       let written = done-promise call a .lists in
-      call .result v h ∙ set-meant I table j inside start v _ ok h (written .each .right v h)
+      call .result v h ∙ set-meant I table j inside start v _ ok h (written .output .right v h)

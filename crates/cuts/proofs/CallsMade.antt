@@ -46,25 +46,25 @@ call-made I n Promise right f met same =
 
 module _ (I : Input) (table : Allowed I) where
   -- There is a call of scoring that leaves the scores by rows.
-  pub score-made : (S : ℕ → ℕ) → ((j : ℕ) → j < I .c → S j ≡ score (column I j)) → ScoreCall I S
-  score-made S right = call-made I (I .c) (Scored I) (λ j. score (column I j)) S (score-done I table) right
+  pub score-call-made : (S : ℕ → ℕ) → ((j : ℕ) → j < I .c → S j ≡ score (column I j)) → ScoreCall I S
+  score-call-made S right = call-made I (I .c) (Scored I) (λ j. score (column I j)) S (score-done I table) right
 
   module _ (j : ℕ) (inside : j < I .c) where
     -- There is a call of handing up that leaves the root's row.
-    pub hand-up-made : (e : ℕ → ℕ) → ((x : ℕ) → x < I .s → e x ≡ row (column I j) (nodes I - 1) x) → HandUpCall I j e
-    hand-up-made e right =
+    pub hand-up-call-made : (e : ℕ → ℕ) → ((x : ℕ) → x < I .s → e x ≡ row (column I j) (nodes I - 1) x) → HandUpCall I j e
+    hand-up-call-made e right =
         call-made I (I .s) (HandedUp I j) (row (column I j) (nodes I - 1)) e (hand-up-done I table j inside) right
 
     -- There is a call of labelling, from each start, that leaves the labelling by rows.
-    pub labels-made : (start : Start) → StateStart I j start → (l : ℕ → ℕ)
+    pub label-call-made : (start : Start) → StateStart I j start → (l : ℕ → ℕ)
         → ((v : ℕ) → v < nodes I → l v ≡ labelsFor (column I j) start v) → LabelCall I j start l
-    labels-made start fit l right =
+    label-call-made start fit l right =
         call-made I (nodes I) (Labelled I j start) (labelsFor (column I j) start) l
         (label-done I table j inside start fit) right
 
     -- There is a call for the sets, from each start, that leaves the sets by rows.
-    pub sets-made : (start : Start) → SetStart I j start → (S : ℕ → ℕ)
+    pub sets-call-made : (start : Start) → SetStart I j start → (S : ℕ → ℕ)
         → ((v : ℕ) → v < nodes I → S v ≡ setsFor (column I j) start v) → SetsCall I j start S
-    sets-made start fit S right =
+    sets-call-made start fit S right =
         call-made I (nodes I) (SetsFound I j start) (setsFor (column I j) start) S
         (sets-done I table j inside start fit) right

@@ -57,7 +57,7 @@ node-code : (left right : List ℕ) (i : ℕ) (x : Node) → Small x → getD le
     → getD right i 0 ≡ rightEntry x → nodeAt left right i ≡ x
 node-code left right i (leaf symbol r) small e f = node-symbol left right i r small e f
 node-code left right i (leaf handed k) small e f = node-handed left right i k e f
-node-code left right i (inner a b) small e f = node-inner left right i a b small e f
+node-code left right i (inner a b) small e f = node-inner left right i a b (λ p. omega arith) e f
 
 module _ (I : Input) (table : Allowed I) (K : Choice) (top : ℕ) (stands : Stands I K top) where
   abbrev n : ℕ

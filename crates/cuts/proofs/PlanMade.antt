@@ -18,7 +18,7 @@ use Rattle.cuts.specs.Cut.{CutAt, part, rest, partNode, restNode, inPart
 use Rattle.cuts.specs.Cuttable.{Cuttable}
 use Rattle.cuts.specs.Piece.{Choice, pieceNode, piece}
 use Rattle.cuts.specs.Plan.{Plan, whole, cutAt, columnsAt, SendsUp, ScoresBy, Comes, LabelsBy, SetsBy, Suits}
-use Rattle.cuts.proofs.CallsMade.{score-made, hand-up-made}
+use Rattle.cuts.proofs.CallsMade.{score-call-made, hand-up-call-made}
 use Rattle.cuts.proofs.CutLaws.{part-stands, rest-stands}
 use Rattle.cuts.proofs.KeptLaws.{Stands, from}
 use Rattle.cuts.proofs.PieceNodes.{piece-nodes}
@@ -47,7 +47,7 @@ module _ (I : Input) (ok : Cuttable I) (v : ℕ) (cut : CutAt I v) where
 -- The table's rows at its root are sent up by every plan that suits it.
 pub plan-sends : (plan : Plan) (I : Input) (up : ℕ → ℕ → ℕ) → Cuttable I → Suits plan I
     → ((j x : ℕ) → j < I .c → x < I .s → up j x ≡ row (column I j) (nodes I - 1) x) → SendsUp plan I up
-plan-sends whole I up ok suits right = λ j hj. hand-up-made I (ok .table) j hj (up j) (λ x hx. right j x hj hx)
+plan-sends whole I up ok suits right = λ j hj. hand-up-call-made I (ok .table) j hj (up j) (λ x hx. right j x hj hx)
 plan-sends (cutAt v below above) I up ok (cut, (low, high)) right =
     let sends : SendsUp below (part I v) (rowsAt I v) =
     plan-sends below (part I v) (rowsAt I v) (part-ok I ok v cut) low
@@ -80,7 +80,7 @@ part-sends I ok v cut below low =
 -- The table's scores are put together by every plan that suits it.
 pub plan-scores : (plan : Plan) (I : Input) (S : ℕ → ℕ) → Cuttable I → Suits plan I
     → ((j : ℕ) → j < I .c → S j ≡ score (column I j)) → ScoresBy plan I S
-plan-scores whole I S ok suits right = score-made I (ok .table) S right
+plan-scores whole I S ok suits right = score-call-made I (ok .table) S right
 plan-scores (cutAt v below above) I S ok (cut, (low, high)) right =
     let sends = part-sends I ok v cut below low in
     let upper : ScoresBy above (rest I v (rowsAt I v)) S =

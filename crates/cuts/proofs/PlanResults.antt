@@ -23,7 +23,7 @@ use Rattle.cuts.specs.Cuttable.{Cuttable}
 use Rattle.cuts.specs.Piece.{Choice, pieceNode}
 use Rattle.cuts.specs.Plan.{Plan, whole, cutAt, columnsAt, SendsUp, ScoresBy, Comes, LabelsBy, SetsBy, Everywhere}
 use Rattle.cuts.proofs.CallLaws.{rules-answer, hand-up-row, score-of, labels-of, sets-of}
-use Rattle.cuts.proofs.CallsMade.{labels-made, sets-made}
+use Rattle.cuts.proofs.CallsMade.{label-call-made, sets-call-made}
 use Rattle.cuts.proofs.CutLaws.{part-stands, rest-stands, rest-own}
 use Rattle.cuts.proofs.KeptLaws.{Stands, piece-top}
 use Rattle.cuts.proofs.PieceNodes.{piece-nodes}
@@ -158,7 +158,7 @@ label-work =
     record {
       down = label-down;
       call = λ I ok j hj start f fit call v h. labels-of I (ok .table) j hj start f fit call v h;
-      made = λ I ok j hj start f fit right. labels-made I (ok .table) j hj start fit f right;
+      made = λ I ok j hj start f fit right. label-call-made I (ok .table) j hj start fit f right;
       same = λ A B top. top .start;
       moves = λ A B j k e top. state-start A B j k e (λ x h. top .root x (subst (λ s. x < s) (sym e) h));
       lowers = λ I ok j hj start fit v cut. part-state I ok j hj v cut _
@@ -171,7 +171,7 @@ sets-work =
     record {
       down = sets-down;
       call = λ I ok j hj start f fit call v h. sets-of I (ok .table) j hj start f fit call v h;
-      made = λ I ok j hj start f fit right. sets-made I (ok .table) j hj start fit f right;
+      made = λ I ok j hj start f fit right. sets-call-made I (ok .table) j hj start fit f right;
       same = λ A B top. top .free;
       moves = λ A B j k e top. set-start A B j k e (λ x h. top .root x (subst (λ s. x < s) (sym e) h));
       lowers = λ I ok j hj start fit v cut. let inside = cut .inside in

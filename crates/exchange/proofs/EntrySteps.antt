@@ -22,7 +22,7 @@ use Rattle.exchange.specs.Entry.{
 }
 use Rattle.sheet_lines.specs.declared.Fault.{Fault}
 use Rattle.report_pages.specs.SheetLine.{onJudged, lineIn, Printable, PrintedOf}
-use Rattle.report_pages.proofs.PrintSteps.{part-first}
+use Rattle.sheet_lines.proofs.PartLaws.{part-first}
 use Rattle.report_pages.proofs.ReadLaws.{read-sound}
 use Rattle.report_lines.specs.Reports.{StartsWith}
 use Rattle.sheet.specs.Gives.{GivesSheet}

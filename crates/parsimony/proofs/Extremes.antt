@@ -28,17 +28,17 @@ module _ {R : ℕ → ℕ → Type 0} {f : ℕ → ℕ} {bound : ℕ} where
       }
 
 -- the lowest so far: each value is at least that; and it is at least the bound if each is
-abbrev pub Lowest : (ℕ → ℕ) → ℕ → ℕ → ℕ → Type 0
-Lowest f bound best i = Extreme _≤_ f bound best i
+abbrev pub LowestSoFar : (ℕ → ℕ) → ℕ → ℕ → ℕ → Type 0
+LowestSoFar f bound best i = Extreme _≤_ f bound best i
 
-pub lowest-more : {f : ℕ → ℕ} {bound best next i : ℕ} → Lowest f bound best i → next ≤ best → next ≤ f i
-    → (next ≡ best) ⊎ (next ≡ f i) → Lowest f bound next (i + 1)
+pub lowest-more : {f : ℕ → ℕ} {bound best next i : ℕ} → LowestSoFar f bound best i → next ≤ best → next ≤ f i
+    → (next ≡ best) ⊎ (next ≡ f i) → LowestSoFar f bound next (i + 1)
 lowest-more = extreme-more (λ a b c h k. omega arith)
 
 -- the highest so far: each value is at most that; and it is at most the bound if each is
-abbrev pub Highest : (ℕ → ℕ) → ℕ → ℕ → ℕ → Type 0
-Highest f bound best i = Extreme (λ a b. b ≤ a) f bound best i
+abbrev pub HighestSoFar : (ℕ → ℕ) → ℕ → ℕ → ℕ → Type 0
+HighestSoFar f bound best i = Extreme (λ a b. b ≤ a) f bound best i
 
-pub highest-more : {f : ℕ → ℕ} {bound best next i : ℕ} → Highest f bound best i → best ≤ next → f i ≤ next
-    → (next ≡ best) ⊎ (next ≡ f i) → Highest f bound next (i + 1)
+pub highest-more : {f : ℕ → ℕ} {bound best next i : ℕ} → HighestSoFar f bound best i → best ≤ next → f i ≤ next
+    → (next ≡ best) ⊎ (next ≡ f i) → HighestSoFar f bound next (i + 1)
 highest-more = extreme-more (λ a b c h k. omega arith)

@@ -1,7 +1,7 @@
 -- A node of a table read from its two entries, and that a tip is no inner node.
 -- Assumes nothing.
 use mathlib.Core.List.{List}
-use mathlib.Core.Path.{_≡_, ap, ap₂, _∙_}
+use mathlib.Core.Path.{_≡_, ap, ap₂, sym, _∙_}
 use Prim.Native.Nat.{ℕ, _+_, _-_, _<_}
 use native.Mathlib.Omega.{arith}
 use borrow.Author.Tests.{eq-eqb, ne-eqb, lt-ltb, le-ltb}
@@ -30,7 +30,6 @@ module _ (left right : List ℕ) (v : ℕ) where
       ∙ ap (leaf handed) (omega arith)
 
   -- an inner node
-  pub node-inner : (a b : ℕ) → a < 65535 → getD left v 0 ≡ a → getD right v 0 ≡ b → nodeAt left right v ≡ inner a b
+  pub node-inner : (a b : ℕ) → (a ≡ 65535 → ⊥) → getD left v 0 ≡ a → getD right v 0 ≡ b → nodeAt left right v ≡ inner a b
   unfolding nodeAt
-  node-inner a b small e f =
-      pick-false _ _ (ne-eqb (getD left v 0) 65535 (λ (p : getD left v 0 ≡ 65535). omega (arith, e))) ∙ ap₂ inner e f
+  node-inner a b other e f = pick-false _ _ (ne-eqb (getD left v 0) 65535 (λ p. other (sym e ∙ p))) ∙ ap₂ inner e f

@@ -20,13 +20,13 @@ written-same {n} {l = l} {m = m} f g same =
 -- ---- from the front: each entry is right for its place
 
 -- nothing is written at the start
-pub each-none : (right : ℕ → ℕ → Type 0) (l : List ℕ) → Written (below 0) (Each 0 right) l l
-each-none right l = record { right = λ i h. absurd (omega arith); long = refl; kept = λ i none. refl }
+pub entries-none : (right : ℕ → ℕ → Type 0) (l : List ℕ) → Written (below 0) (Each 0 right) l l
+entries-none right l = record { right = λ i h. absurd (omega arith); long = refl; kept = λ i none. refl }
 
 -- one entry more
-pub each-more : (right : ℕ → ℕ → Type 0) (n v : ℕ) (before now : List ℕ) → Written (below n) (Each n right) before now
+pub entries-more : (right : ℕ → ℕ → Type 0) (n v : ℕ) (before now : List ℕ) → Written (below n) (Each n right) before now
     → n < length now → right n v → Written (below (n + 1)) (Each (n + 1) right) before (set now n v)
-each-more right n v before now w h here =
+entries-more right n v before now w h here =
     record {
       right = λ i k. by-eq i n
           (λ p. subst (λ m. right m (entries (set now n v) m)) (sym p)

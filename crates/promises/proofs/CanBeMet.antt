@@ -1,7 +1,7 @@
 -- Each promise can be met: on an allowed table, given a column and a start, whatever lists with room are lent, there
 -- are lists with which it holds and the answer is done, and they have what the definitions by rows give.
 -- Assumes nothing.
-use mathlib.Core.List.{List, []}
+use mathlib.Core.List.{List, [], _∷_, _++_}
 use mathlib.Core.Path.{_≡_, refl, sym, subst}
 use Prim.Native.Nat.{ℕ, zero, suc, _*_, _-_, _≤_, _<_}
 use native.Mathlib.Nat.{suc-inj}
@@ -12,11 +12,32 @@ use Rattle.parsimony.specs.Counting.{countedAt}
 use Rattle.parsimony.specs.Row.{row, score}
 use Rattle.parsimony.specs.Written.{Each, entries}
 use Rattle.parsimony.proofs.Demand2.{column-count}
-use Rattle.promises.specs.CallRules.{Allowed, UnitTable, Fits, FitsWork}
-use Rattle.promises.specs.CallWrites.{StatesOf, SetsOf}
+use Rattle.promises.specs.CallRules.{
+  tableRules,
+  whichRule,
+  roomRule,
+  Allowed,
+  ColumnAsked,
+  UnitTable,
+  Fits,
+  FitsWork,
+  labelRules,
+  setsRules,
+  handUpRules,
+}
+use Rattle.promises.specs.CallWrites.{StatesOf, SetsOf, EntriesOf}
 use Rattle.promises.specs.Input.{Input, input, nodes, column}
-use Rattle.promises.specs.Promises.{Scored, Labelled, SetsFound, HandedUp, ColumnWorked, CountedBySets}
+use Rattle.promises.specs.Promises.{
+  Scored,
+  ColumnCalled,
+  Labelled,
+  SetsFound,
+  HandedUp,
+  ColumnWorked,
+  CountedBySets,
+}
 use Rattle.promises.specs.RowRoom.{Worked}
+use Rattle.promises.specs.Rules.{Rule, All}
 use Rattle.promises.specs.Starts.{StateStart, SetStart, labelsFor, setsFor}
 use Rattle.promises.specs.declared.Answer.the-variants.{Done}
 use Rattle.promises.specs.declared.Start.{Start}
@@ -81,6 +102,20 @@ module _ (I : Input) (table : Allowed I) where
     worked-made : (rows : List ℕ) → nodes I * I .s ≤ length rows → (rows' : List ℕ) × Worked I j rows rows'
     worked-made rows room = rows-made (row (column I j)) (nodes I) (I .s) rows room
 
+    -- a call on the column is done where its rules hold and its output is written
+    column-done : (rules : ℕ → ℕ → List Rule) (Output : List ℕ → List ℕ → Type 0) (out rows out' : List ℕ)
+        → All (rules (length out) (length rows)) → nodes I * I .s ≤ length rows → Output out out'
+        → (rows' : List ℕ) × ColumnCalled rules I j Output out rows Done out' rows'
+    column-done rules Output out rows out' all room output =
+        let (rows', worked) = worked-made rows room in
+        (rows', record { answer = record { given = all }; lists = record { output = output; worked = worked } })
+
+    -- the rules of a call hold where its start may be given and there is room
+    asked-rules : (May : Input → ℕ → Start → Type 0) (start : Start) {Room : Type 0} → May I j start → Room
+        → All (tableRules I ++ (whichRule (ColumnAsked May I j start) ∷ roomRule Room ∷ []))
+    asked-rules May start may room =
+        rules-of I _ _ (record { table = table; which = record { inside = inside; may = may }; room = room })
+
     -- Handing up can be done; what it leaves is the root's row.
     pub hand-up-done : (out rows : List ℕ) → Fits I (I .s) (length out) (length rows)
         → (out' : List ℕ) × (rows' : List ℕ) × HandedUp I j out rows Done out' rows'
@@ -88,19 +123,11 @@ module _ (I : Input) (table : Allowed I) where
     unfolding columnOf
     hand-up-done out rows room =
         let (out', written) = list-made (I .s) (row (column I j) (nodes I - 1)) out (room .outputRoom) in
-        let (rows', worked) = worked-made rows (room .rowRoom) in (
-          out',
-          rows',
-          record {
-            answer = record { given = rules-of I _ _ (record { table = table; which = inside; room = room }) };
-            lists = record {
-              each = written-right written
-                  (λ x h. entry-right I table j inside x (entries out' x) h (written .right x h));
-              worked = worked;
-            };
-          },
-          written .right,
-        )
+        let (rows', done) =
+        column-done (handUpRules I j) (EntriesOf I j) out rows out'
+        (rules-of I _ _ (record { table = table; which = inside; room = room })) (room .rowRoom)
+        (written-right written (λ x h. entry-right I table j inside x (entries out' x) h (written .right x h))) in
+        (out', rows', done, written .right)
 
     -- Labelling from a start can be done; what it leaves is the labelling by rows.
     pub label-done : (start : Start) → StateStart I j start → (states rows : List ℕ)
@@ -109,19 +136,10 @@ module _ (I : Input) (table : Allowed I) where
         × Each (nodes I) (λ v x. x ≡ labelsFor (column I j) start v) (entries states')
     label-done start may states rows room =
         let (states', labels, same) = states-made start may states (room .outputRoom) in
-        let (rows', worked) = worked-made rows (room .rowRoom) in (
-          states',
-          rows',
-          record {
-            answer = record {
-              given =
-                  rules-of I _ _
-                  (record { table = table; which = record { inside = inside; may = may }; room = room });
-            };
-            lists = record { labels = labels; worked = worked };
-          },
-          same,
-        )
+        let (rows', done) =
+        column-done (labelRules I j start) (StatesOf I j start) states rows states'
+        (asked-rules StateStart start may room) (room .rowRoom) labels in
+        (states', rows', done, same)
 
     -- The call for the sets from a start can be done; what it leaves are the sets by rows.
     pub sets-done : (start : Start) → SetStart I j start → (sets rows : List ℕ)
@@ -130,19 +148,10 @@ module _ (I : Input) (table : Allowed I) where
         × Each (nodes I) (λ v w. w ≡ setsFor (column I j) start v) (entries sets')
     sets-done start may sets rows room =
         let (sets', each, same) = sets-made start may sets (room .outputRoom) in
-        let (rows', worked) = worked-made rows (room .rowRoom) in (
-          sets',
-          rows',
-          record {
-            answer = record {
-              given =
-                  rules-of I _ _
-                  (record { table = table; which = record { inside = inside; may = may }; room = room });
-            };
-            lists = record { each = each; worked = worked };
-          },
-          same,
-        )
+        let (rows', done) =
+        column-done (setsRules I j start) (SetsOf I j start) sets rows sets'
+        (asked-rules SetStart start may room) (room .rowRoom) each in
+        (sets', rows', done, same)
 
     -- The whole work on a column can be done, and its number is the score by rows.
     pub work-done : (states sets rows : List ℕ) → FitsWork I (length states) (length sets) (length rows)

@@ -14,7 +14,15 @@ use Rattle.promises.specs.Answers.{Given, LeftBy, answerOf, valueOf}
 use Rattle.promises.specs.CallRules.{Allowed}
 use Rattle.promises.specs.CallWrites.{StatesOf, ScoresWritten, WorkWritten, IsPrelim, CountWritten}
 use Rattle.promises.specs.Input.{Input, nodes, column}
-use Rattle.promises.specs.Promises.{Scored, Labelled, SetsFound, HandedUp, ColumnWorked, CountedBySets}
+use Rattle.promises.specs.Promises.{
+  Scored,
+  ColumnCalled,
+  Labelled,
+  SetsFound,
+  HandedUp,
+  ColumnWorked,
+  CountedBySets,
+}
 use Rattle.promises.specs.RowRoom.{Worked}
 use Rattle.promises.specs.Rules.{Rule, All}
 use Rattle.promises.specs.declared.Answer.{Answer}
@@ -32,9 +40,9 @@ use Rattle.promises.proofs.TableLaws.{table-sound}
 
 -- two outcomes under the same rules have the same answer, and leave the same if they do so refused and done
 module _ {rules : List Rule} {I : Input} {Kept Kept' Same : Type 0} where
-  pub outcome : {a b : Answer} {Wrote Wrote' : Type 0} → Given rules I a → Given rules I b → LeftBy a Kept Wrote
+  pub answer-outcome : {a b : Answer} {Wrote Wrote' : Type 0} → Given rules I a → Given rules I b → LeftBy a Kept Wrote
       → LeftBy b Kept' Wrote' → (Kept → Kept' → Same) → (All rules → Wrote → Wrote' → Same) → (a ≡ b) × Same
-  outcome {a} {b} {Wrote} {Wrote'} f g l m refused done =
+  answer-outcome {a} {b} {Wrote} {Wrote'} f g l m refused done =
       let same = answer-unique rules I a b f g in
       (same, at a f l (subst (λ c. LeftBy c Kept' Wrote') (sym same) m))
     where
@@ -94,41 +102,43 @@ kept-two f g = (f .0 ∙ sym (g .0), f .1 ∙ sym (g .1))
 pub score-outcome : (I : Input) (scores rows : List ℕ) (a b : Answer) (s1 r1 s2 r2 : List ℕ)
     → Scored I scores rows a s1 r1 → Scored I scores rows b s2 r2 → (a ≡ b) × ((s1 ≡ s2) × (r1 ≡ r2))
 score-outcome I scores rows a b s1 r1 s2 r2 f g =
-    outcome (f .answer) (g .answer) (f .lists) (g .lists) kept-two
+    answer-outcome (f .answer) (g .answer) (f .lists) (g .lists) kept-two
     (λ rules u v. (
       each-same (u .each) (v .each) (λ j k m. score-unique (column I j) k m),
       scores-rows I (I .c) scores rows s1 r1 s2 r2 refl u v,
     ))
+
+-- no second outcome of a call on a column whose output can be written in one way only
+column-outcome : {rules : ℕ → ℕ → List Rule} {I : Input} {j : ℕ} {Output : List ℕ → List ℕ → Type 0}
+    {out rows : List ℕ} {a b : Answer} {o1 r1 o2 r2 : List ℕ} → ColumnCalled rules I j Output out rows a o1 r1
+    → ColumnCalled rules I j Output out rows b o2 r2
+    → (All (rules (length out) (length rows)) → Output out o1 → Output out o2 → o1 ≡ o2)
+    → (a ≡ b) × ((o1 ≡ o2) × (r1 ≡ r2))
+column-outcome {I = I} {j = j} f g same =
+    answer-outcome (f .answer) (g .answer) (f .lists) (g .lists) kept-two
+    (λ all u v. (same all (u .output) (v .output), room-same I j (u .worked) (v .worked)))
 
 -- no second outcome of labelling
 pub label-outcome : (I : Input) (j : ℕ) (start : Start) (states rows : List ℕ) (a b : Answer) (s1 r1 s2 r2 : List ℕ)
     → Labelled I j start states rows a s1 r1 → Labelled I j start states rows b s2 r2
     → (a ≡ b) × ((s1 ≡ s2) × (r1 ≡ r2))
 label-outcome I j start states rows a b s1 r1 s2 r2 f g =
-    outcome (f .answer) (g .answer) (f .lists) (g .lists) kept-two
-    (λ rules u v. let parts = label-parts I j start (length states) (length rows) rules in
-    (states-same (parts .table) (parts .which .inside) (u .labels) (v .labels), room-same I j (u .worked) (v .worked)))
+    column-outcome f g
+    (λ all. let parts = label-parts I j start (length states) (length rows) all in
+    states-same (parts .table) (parts .which .inside))
 
 -- no second outcome of the set call
 pub sets-outcome : (I : Input) (j : ℕ) (start : Start) (sets rows : List ℕ) (a b : Answer) (s1 r1 s2 r2 : List ℕ)
     → SetsFound I j start sets rows a s1 r1 → SetsFound I j start sets rows b s2 r2
     → (a ≡ b) × ((s1 ≡ s2) × (r1 ≡ r2))
 sets-outcome I j start sets rows a b s1 r1 s2 r2 f g =
-    outcome (f .answer) (g .answer) (f .lists) (g .lists) kept-two
-    (λ rules u v. (
-      each-same (u .each) (v .each) (set-unique (column I j) start),
-      room-same I j (u .worked) (v .worked),
-    ))
+    column-outcome f g (λ all u v. each-same u v (set-unique (column I j) start))
 
 -- no second outcome of handing up
 pub hand-up-outcome : (I : Input) (j : ℕ) (row rows : List ℕ) (a b : Answer) (s1 r1 s2 r2 : List ℕ)
     → HandedUp I j row rows a s1 r1 → HandedUp I j row rows b s2 r2 → (a ≡ b) × ((s1 ≡ s2) × (r1 ≡ r2))
 hand-up-outcome I j row rows a b s1 r1 s2 r2 f g =
-    outcome (f .answer) (g .answer) (f .lists) (g .lists) kept-two
-    (λ rules u v. (
-      each-same (u .each) (v .each) (entry-unique (column I j)),
-      room-same I j (u .worked) (v .worked),
-    ))
+    column-outcome f g (λ all u v. each-same u v (entry-unique (column I j)))
 
 -- the whole work on a column can be written in one way only
 pub work-unique : (I : Input) → Allowed I → (j : ℕ) → j < I .c → (states sets rows : List ℕ) (k m : ℕ)

@@ -12,8 +12,7 @@ use Rattle.parsimony.specs.Table.{Legal, symbol, handed}
 use Rattle.promises.specs.CallRules.{
   tableRules,
   Allowed,
-  StateAsked,
-  SetAsked,
+  ColumnAsked,
   UnitTable,
   Fits,
   FitsWork,
@@ -31,6 +30,7 @@ use Rattle.promises.specs.CallRules.{
 }
 use Rattle.promises.specs.Input.{Input, input, nodes, tipsIn}
 use Rattle.promises.specs.Rules.{Rule, All, First}
+use Rattle.promises.specs.Starts.{StateStart, SetStart}
 use Rattle.promises.specs.declared.Start.{Start}
 
 -- ---- any rules
@@ -180,12 +180,12 @@ module _ (I : Input) (a b : ℕ) where
   score-rules table = score-all (allowed-table I table)
 
 pub label-parts : (I : Input) (j : ℕ) (start : Start) (a b : ℕ) → All (labelRules I j start a b)
-    → Parts I (StateAsked I j start) (Fits I (nodes I) a b)
-label-parts I j start a b = parts-of I (StateAsked I j start) (Fits I (nodes I) a b)
+    → Parts I (ColumnAsked StateStart I j start) (Fits I (nodes I) a b)
+label-parts I j start a b = parts-of I (ColumnAsked StateStart I j start) (Fits I (nodes I) a b)
 
 pub sets-parts : (I : Input) (j : ℕ) (start : Start) (a b : ℕ) → All (setsRules I j start a b)
-    → Parts I (SetAsked I j start) (Fits I (nodes I) a b)
-sets-parts I j start a b = parts-of I (SetAsked I j start) (Fits I (nodes I) a b)
+    → Parts I (ColumnAsked SetStart I j start) (Fits I (nodes I) a b)
+sets-parts I j start a b = parts-of I (ColumnAsked SetStart I j start) (Fits I (nodes I) a b)
 
 pub hand-up-parts : (I : Input) (j a b : ℕ) → All (handUpRules I j a b) → Parts I (j < I .c) (Fits I (I .s) a b)
 hand-up-parts I j a b = parts-of I (j < I .c) (Fits I (I .s) a b)

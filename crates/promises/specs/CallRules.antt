@@ -53,15 +53,10 @@ pub record Allowed (I : Input) : Type 0 where
   pub cells : CellRules (I .s) (tipsIn symbol I) (I .c) (I .cells)
   pub handed : HandedRules (I .s) (I .c) (tipsIn handed I) (I .handed)
 
--- a column of the table, and a start that may be given for it
-pub record StateAsked (I : Input) (j : ℕ) (start : Start) : Type 0 where
+-- column j is one of the table, and the start may be given for it, where May says which may
+pub record ColumnAsked (May : Input → ℕ → Start → Type 0) (I : Input) (j : ℕ) (start : Start) : Type 0 where
   pub inside : j < I .c
-  pub may : StateStart I j start
-
--- a column of the table, and a start set that may be given for it
-pub record SetAsked (I : Input) (j : ℕ) (start : Start) : Type 0 where
-  pub inside : j < I .c
-  pub may : SetStart I j start
+  pub may : May I j start
 
 -- the costs are unit costs, and no tip is handed
 pub record UnitTable (I : Input) : Type 0 where
@@ -86,12 +81,12 @@ scoreRules I scores rows = tableRules I ++ (roomRule (Fits I (I .c) scores rows)
 -- labelling column j from a start, with room for so many states and row entries
 abbrev pub labelRules : Input → ℕ → Start → ℕ → ℕ → List Rule
 labelRules I j start states rows =
-    tableRules I ++ (whichRule (StateAsked I j start) ∷ roomRule (Fits I (nodes I) states rows) ∷ [])
+    tableRules I ++ (whichRule (ColumnAsked StateStart I j start) ∷ roomRule (Fits I (nodes I) states rows) ∷ [])
 
 -- the sets of column j from a start, with room for so many sets and row entries
 abbrev pub setsRules : Input → ℕ → Start → ℕ → ℕ → List Rule
 setsRules I j start sets rows =
-    tableRules I ++ (whichRule (SetAsked I j start) ∷ roomRule (Fits I (nodes I) sets rows) ∷ [])
+    tableRules I ++ (whichRule (ColumnAsked SetStart I j start) ∷ roomRule (Fits I (nodes I) sets rows) ∷ [])
 
 -- handing up column j, with room for so many entries and row entries
 abbrev pub handUpRules : Input → ℕ → ℕ → ℕ → List Rule

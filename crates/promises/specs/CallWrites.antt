@@ -20,26 +20,31 @@ StatesOf I j start = Written (below (nodes I)) (IsLabelling (column I j) start)
 abbrev pub SetsOf : Input → ℕ → Start → List ℕ → List ℕ → Type 0
 SetsOf I j start = Written (below (nodes I)) (Each (nodes I) (IsSet (column I j) start))
 
+-- the s entries that column j hands up
+abbrev pub EntriesOf : Input → ℕ → List ℕ → List ℕ → Type 0
+EntriesOf I j = Written (below (I .s)) (Each (I .s) (IsEntry (column I j)))
+
 -- what scoring has written: each column's score; the row room holds the last column, and is as it was if there is none
 pub record ScoresWritten (I : Input) (scores rows scores' rows' : List ℕ) : Type 0 where
   pub each : Written (below (I .c)) (Each (I .c) (λ j. IsScore (column I j))) scores scores'
   pub none : I .c ≡ 0 → rows' ≡ rows
   pub last : (j : ℕ) → suc j ≡ I .c → Worked I j rows rows'
 
--- what labelling has written: n states, those of the labelling from the start, and the rows of the column
-pub record LabelsWritten (I : Input) (j : ℕ) (start : Start) (states rows states' rows' : List ℕ) : Type 0 where
-  pub labels : StatesOf I j start states states'
+-- what a call on column j has written: its output, as it should be, and the rows of the column
+pub record ColumnWritten (I : Input) (j : ℕ) (Output : List ℕ → List ℕ → Type 0) (out rows out' rows' : List ℕ)
+    : Type 0 where
+  pub output : Output out out'
   pub worked : Worked I j rows rows'
 
--- what the set call has written: n sets, and the rows of the column
-pub record SetsWritten (I : Input) (j : ℕ) (start : Start) (sets rows sets' rows' : List ℕ) : Type 0 where
-  pub each : SetsOf I j start sets sets'
-  pub worked : Worked I j rows rows'
+-- labelling from a start writes n states, the set call n sets, handing up s entries
+abbrev pub LabelsWritten : Input → ℕ → Start → List ℕ → List ℕ → List ℕ → List ℕ → Type 0
+LabelsWritten I j start = ColumnWritten I j (StatesOf I j start)
 
--- what handing up has written: s entries, and the rows of the column
-pub record RowWritten (I : Input) (j : ℕ) (row rows row' rows' : List ℕ) : Type 0 where
-  pub each : Written (below (I .s)) (Each (I .s) (IsEntry (column I j))) row row'
-  pub worked : Worked I j rows rows'
+abbrev pub SetsWritten : Input → ℕ → Start → List ℕ → List ℕ → List ℕ → List ℕ → Type 0
+SetsWritten I j start = ColumnWritten I j (SetsOf I j start)
+
+abbrev pub RowWritten : Input → ℕ → List ℕ → List ℕ → List ℕ → List ℕ → Type 0
+RowWritten I j = ColumnWritten I j (EntriesOf I j)
 
 -- what the whole work on column j has written and answered: n states and n sets, from no start, the rows, the score
 pub record WorkWritten (I : Input) (j : ℕ) (states sets rows : List ℕ) (k : ℕ) (states' sets' rows' : List ℕ)

@@ -7,14 +7,16 @@ use lib.ListN.{length}
 use Rattle.promises.specs.Answers.{Given, LeftBy, answerOf, valueOf}
 use Rattle.promises.specs.CallRules.{scoreRules, labelRules, setsRules, handUpRules, workRules, countRules}
 use Rattle.promises.specs.CallWrites.{
+  StatesOf,
+  SetsOf,
+  EntriesOf,
   ScoresWritten,
-  LabelsWritten,
-  SetsWritten,
-  RowWritten,
+  ColumnWritten,
   WorkWritten,
   CountWritten,
 }
 use Rattle.promises.specs.Input.{Input}
+use Rattle.promises.specs.Rules.{Rule}
 use Rattle.promises.specs.declared.Answer.{Answer}
 use Rattle.promises.specs.declared.Start.{Start}
 use Rattle.promises.specs.declared.Valued.{Valued}
@@ -24,22 +26,23 @@ pub record Scored (I : Input) (scores rows : List ℕ) (a : Answer) (scores' row
   pub answer : Given (scoreRules I (length scores) (length rows)) I a
   pub lists : LeftBy a ((scores' ≡ scores) × (rows' ≡ rows)) (ScoresWritten I scores rows scores' rows')
 
+-- a call on column j with these rules, which go by the lengths of its output and its row room, and with this output
+pub record ColumnCalled (rules : ℕ → ℕ → List Rule) (I : Input) (j : ℕ) (Output : List ℕ → List ℕ → Type 0)
+    (out rows : List ℕ) (a : Answer) (out' rows' : List ℕ) : Type 0 where
+  pub answer : Given (rules (length out) (length rows)) I a
+  pub lists : LeftBy a ((out' ≡ out) × (rows' ≡ rows)) (ColumnWritten I j Output out rows out' rows')
+
 -- labelling column j from a start
-pub record Labelled (I : Input) (j : ℕ) (start : Start) (states rows : List ℕ) (a : Answer) (states' rows' : List ℕ)
-    : Type 0 where
-  pub answer : Given (labelRules I j start (length states) (length rows)) I a
-  pub lists : LeftBy a ((states' ≡ states) × (rows' ≡ rows)) (LabelsWritten I j start states rows states' rows')
+abbrev pub Labelled : Input → ℕ → Start → List ℕ → List ℕ → Answer → List ℕ → List ℕ → Type 0
+Labelled I j start = ColumnCalled (labelRules I j start) I j (StatesOf I j start)
 
 -- the sets of column j from a start
-pub record SetsFound (I : Input) (j : ℕ) (start : Start) (sets rows : List ℕ) (a : Answer) (sets' rows' : List ℕ)
-    : Type 0 where
-  pub answer : Given (setsRules I j start (length sets) (length rows)) I a
-  pub lists : LeftBy a ((sets' ≡ sets) × (rows' ≡ rows)) (SetsWritten I j start sets rows sets' rows')
+abbrev pub SetsFound : Input → ℕ → Start → List ℕ → List ℕ → Answer → List ℕ → List ℕ → Type 0
+SetsFound I j start = ColumnCalled (setsRules I j start) I j (SetsOf I j start)
 
 -- handing up column j
-pub record HandedUp (I : Input) (j : ℕ) (row rows : List ℕ) (a : Answer) (row' rows' : List ℕ) : Type 0 where
-  pub answer : Given (handUpRules I j (length row) (length rows)) I a
-  pub lists : LeftBy a ((row' ≡ row) × (rows' ≡ rows)) (RowWritten I j row rows row' rows')
+abbrev pub HandedUp : Input → ℕ → List ℕ → List ℕ → Answer → List ℕ → List ℕ → Type 0
+HandedUp I j = ColumnCalled (handUpRules I j) I j (EntriesOf I j)
 
 -- the whole work on column j; the answer's number is the score
 pub record ColumnWorked (I : Input) (j : ℕ) (states sets rows : List ℕ) (a : Valued) (states' sets' rows' : List ℕ)

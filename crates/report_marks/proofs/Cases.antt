@@ -10,9 +10,9 @@ unfolding quietMark
 quiet-codes = refl
 
 -- C, C, T, T
-pub quiet-no : quietMark (2 ∷ 8 ∷ 2 ∷ 8 ∷ []) ≡ 0
+pub quiet-two-bases-twice : quietMark (2 ∷ 8 ∷ 2 ∷ 8 ∷ []) ≡ 0
 unfolding quietMark
-quiet-no = refl
+quiet-two-bases-twice = refl
 
 -- one base at every tip
 pub quiet-one-base : quietMark (8 ∷ 8 ∷ 8 ∷ 8 ∷ []) ≡ 1

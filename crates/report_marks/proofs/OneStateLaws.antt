@@ -52,25 +52,25 @@ ones-most s S (suc n) =
     omega arith
 
 -- of the first v of n sets so many have one of s states
-pub record Counted (s : ℕ) (S : ℕ → ℕ) (n count v : ℕ) : Type 0 where
+pub record CountedTo (s : ℕ) (S : ℕ → ℕ) (n count v : ℕ) : Type 0 where
   pub few : v ≤ n
   pub is : count ≡ oneStates s S v
 
 -- none at the start
-pub counted-none : (s : ℕ) (S : ℕ → ℕ) (n : ℕ) → Counted s S n 0 0
+pub counted-none : (s : ℕ) (S : ℕ → ℕ) (n : ℕ) → CountedTo s S n 0 0
 counted-none s S n = record { few = omega arith; is = let most = ones-most s S 0 in omega arith }
 
 -- one set more
-pub counted-more : (s : ℕ) (S : ℕ → ℕ) (n count v here : ℕ) → v < n → here ≡ single s (S v) → Counted s S n count v
-    → Counted s S n (count + here) (v + 1)
+pub counted-more : (s : ℕ) (S : ℕ → ℕ) (n count v here : ℕ) → v < n → here ≡ single s (S v) → CountedTo s S n count v
+    → CountedTo s S n (count + here) (v + 1)
 counted-more s S n count v here inside one so-far =
     record { few = omega arith; is = let more = ones-more s S v in omega (arith, so-far .is) }
 
 -- no more than there are sets
-pub counted-most : {s n count v : ℕ} {S : ℕ → ℕ} → Counted s S n count v → count ≤ v
+pub counted-most : {s n count v : ℕ} {S : ℕ → ℕ} → CountedTo s S n count v → count ≤ v
 counted-most {s} {n} {count} {v} {S} so-far = let most = ones-most s S v in omega (arith, so-far .is)
 
 -- all sets
-pub counted-all : {s n count v : ℕ} {S : ℕ → ℕ} → n ≤ v → Counted s S n count v → count ≡ oneStates s S n
+pub counted-all : {s n count v : ℕ} {S : ℕ → ℕ} → n ≤ v → CountedTo s S n count v → count ≡ oneStates s S n
 counted-all {s} {n} {count} {v} {S} over so-far =
     let same : v ≡ n = omega (arith, so-far .few) in so-far .is ∙ ap (oneStates s S) same

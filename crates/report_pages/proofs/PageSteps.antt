@@ -11,7 +11,8 @@ use Rattle.parsimony.proofs.Order.{by-eq}
 use Rattle.parsimony.proofs.Sums.{sum-zero, sum-suc}
 use Rattle.report_pages.specs.Page.{fullLine, linesIn, scoresIn, LineOf, Lines, PageOf, PrintableFrom}
 use Rattle.report_pages.specs.SheetLine.{lineIn, scoreIn, Printable, Room, PrintedOf}
-use Rattle.report_pages.proofs.PrintSteps.{part-first, printable-score}
+use Rattle.report_pages.proofs.PrintSteps.{printable-score}
+use Rattle.sheet_lines.proofs.PartLaws.{part-first}
 use Rattle.sheet.specs.Judge.{Contents, sound, judge}
 use Rattle.sheet.specs.declared.Sheet.{Sheet}
 use Rattle.sheet.proofs.SoundSheet.{sound-same}
@@ -186,9 +187,9 @@ room-kept left right cells states sets rows line cells' states' sets' rows' line
     }
 
 -- a byte that is put ends within the page
-pub byte-inside : (page page₁ : List ℕ) (next end : ℕ) → next < length page → Put (10 ∷ []) next page page₁ end → end
+pub line-end-inside : (page page₁ : List ℕ) (next end : ℕ) → next < length page → Put (10 ∷ []) next page page₁ end → end
     ≤ length page₁
-byte-inside page page₁ next end low put = let same = put-long put in let e = put .end in omega arith
+line-end-inside page page₁ next end low put = let same = put-long put in let e = put .end in omega arith
 
 module _ (sheet : List ℕ) (s : Sheet) (costs left right : List ℕ) (ready : PrintableFrom sheet s costs left right 0)
   where

@@ -4,7 +4,7 @@ use mathlib.Core.List.{List, []}
 use mathlib.Core.Path.{_≡_, ap, sym, _∙_, subst}
 use Prim.Native.Nat.{ℕ, _+_, _-_, _<_, _≤_}
 use native.Mathlib.Omega.{arith}
-use lib.ListN.{length, getD, take, drop}
+use lib.ListN.{length, getD, take}
 use lib.Seq.{length-take-le, getD-take, ext-getD}
 use Rattle.parsimony.specs.Allowed.{mostHanded}
 use Rattle.parsimony.specs.Barred.{barred}
@@ -113,10 +113,3 @@ module _ (sheet : List ℕ) (s : Sheet) (costs left right : List ℕ) (j : ℕ) 
               reported in
               subst (λ h. Printed sheet h j line line' size k) eq (record { text = told .text; score = told .score });
         }
-
--- the first t of a list, as a part that is lent
-pub part-first : (l : List ℕ) (t : ℕ) → take (t - 0) (drop 0 l) ≡ take t l
-part-first l t = let same : t - 0 ≡ t = omega arith in ap (λ k. take k l) same
-
-pub part-size : (l : List ℕ) (t : ℕ) → t ≤ length l → length (take (t - 0) (drop 0 l)) ≡ t
-part-size l t h = ap length (part-first l t) ∙ length-take-le t l h

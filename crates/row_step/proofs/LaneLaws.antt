@@ -7,12 +7,13 @@ use Prim.Native.Nat.{ℕ, _+_, _*_, _<_, _≤_}
 use native.Mathlib.Nat.{suc-mul, mul-le-mul-right}
 use native.Mathlib.Omega.{arith}
 use lib.ListN.{length, getD}
+use Rattle.parsimony.specs.Allowed.{CostRules}
 use Rattle.parsimony.specs.Barred.{plus}
 use Rattle.parsimony.specs.Least.{least}
 use Rattle.parsimony.proofs.BarredLaws.{plus-right, plus-le}
 use Rattle.parsimony.proofs.ColumnLaws.{place}
 use Rattle.parsimony.proofs.LeastLaws.{least-low, low-within, least-same}
-use Rattle.row_step.specs.Lane.{Within, lane, Calm, Cheap, joinAt}
+use Rattle.row_step.specs.Lane.{Within, lane, Calm, Cheap, CheapTable, joinAt}
 use Rattle.parsimony.specs.Written.{Wrote}
 
 -- a sum in a lane is barred or little above 2^30
@@ -55,13 +56,16 @@ calm-same rows other at s long h calm =
     }
 
 -- row x of a cost table is cheap
-pub cheap-row : (costs : List ℕ) (s x : ℕ) → length costs ≡ s * s → ((i : ℕ) → i < s * s → getD costs i 0 ≤ 999) → x < s
-    → Cheap costs (x * s) s
-cheap-row costs s x long cheap h =
+pub cheap-row : (costs : List ℕ) (s x : ℕ) → CheapTable costs s → x < s → Cheap costs (x * s) s
+cheap-row costs s x table h =
     record {
-      inside = let step = suc-mul x s in let whole = mul-le-mul-right s h in omega arith;
-      cheap = λ y k. cheap (x * s + y) (place x y s s h k);
+      inside = let step = suc-mul x s in let whole = mul-le-mul-right s h in omega (arith, table .count);
+      cheap = λ y k. table .each (x * s + y) (place x y s s h k);
     }
+
+-- costs that keep the rules are such a table
+pub rules-cheap : (s : ℕ) (costs : List ℕ) → CostRules s costs → CheapTable costs s
+rules-cheap s costs rules = record { count = rules .count; each = rules .cheap }
 
 -- while a row is written above them, the rows below keep their entries,
 pub kept-entry : (at x : ℕ) (f : ℕ → ℕ) (before now : List ℕ) (a s : ℕ) → Wrote at x f before now → a + s ≤ at

@@ -31,6 +31,11 @@ pub record Cheap (costs : List ℕ) (from s : ℕ) : Type 0 where
   pub inside : from + s ≤ length costs
   pub cheap : (y : ℕ) → y < s → getD costs (from + y) 0 ≤ 999
 
+-- the costs are an s by s table, each at most 999
+pub record CheapTable (costs : List ℕ) (s : ℕ) : Type 0 where
+  pub count : length costs ≡ s * s
+  pub each : (i : ℕ) → i < s * s → getD costs i 0 ≤ 999
+
 -- an inner node's entry for its state x, from its children's rows at places a and b
 unfoldable pub joinAt : List ℕ → ℕ → List ℕ → ℕ → ℕ → ℕ → ℕ
 unfolding lane least plus

@@ -2,14 +2,14 @@
 // an inner node's from its children's rows, which is the row step. A row of s entries lies in the list of rows from a
 // place on; row x of the cost table from place x * s on.
 ghost use mathlib.Core.Path.{_≡_};
-ghost use Prim.Native.Nat.{ℕ, _+_, _*_, _<_, _≤_};
-ghost use lib.ListN.{length, getD};
+ghost use Prim.Native.Nat.{_+_, _<_, _≤_};
+ghost use lib.ListN.{length};
 ghost use Rattle.parsimony.specs.Barred.{plus};
 ghost use Rattle.parsimony.specs.Column.{cellEntry};
 ghost use Rattle.parsimony.specs.Least.{least};
 ghost use Rattle.parsimony.specs.Limits.{mostStates};
 ghost use Rattle.parsimony.specs.Written.{Wrote};
-ghost use Rattle.row_step.specs.Lane.{Within, entryAt, lane, Calm, Cheap, joinAt};
+ghost use Rattle.row_step.specs.Lane.{Within, entryAt, lane, Calm, Cheap, CheapTable, joinAt};
 use parsimony::BARRED;
 use parsimony::Cell;
 use states::States;
@@ -107,7 +107,7 @@ fn join_entry(costs: &[u16], from: usize, rows: &[u32], a: usize, b: usize, s: u
 
 // The row step: an inner node's row at a place of its own, from its children's rows at places a and b below it.
 pub fn inner_row(costs: &[u16], rows: &mut [u32], a: usize, b: usize, at: usize, s: usize)
-    requires { ⌜ (length (now costs) ≡ s * s) × ((i : ℕ) → i < s * s → getD (now costs) i 0 ≤ 999) ⌝ }
+    requires { ⌜ CheapTable (now costs) s ⌝ }
     requires { ⌜ Calm (now rows) a s × Calm (now rows) b s ⌝ }
     requires { ⌜ (0 < s) × (s ≤ mostStates) ⌝ }
     requires { ⌜ (a + s ≤ at) × (b + s ≤ at) × (at + s ≤ length (now rows)) ⌝ }

@@ -7,7 +7,7 @@ use native.Mathlib.Omega.{arith}
 use borrow.Author.Tests.{eq-eqb, ne-eqb, lt-ltb, le-ltb}
 use lib.Dec.{eqb}
 use lib.ListN.{length, drop, take, drop-of-length-le}
-use lib.Seq.{take-append-seam, length-take-le}
+use lib.Seq.{take-append-seam}
 use Rattle.parsimony.specs.Test.{pick}
 use Rattle.parsimony.proofs.Order.{pick-true, pick-false}
 use Rattle.sheet_lines.specs.Count.{onPlace}
@@ -204,13 +204,3 @@ module _ (sheet : List ℕ) (left right left' right' : List ℕ) where
         ∙ ap (λ n. treeLine sheet n costs s) (sym at-names) in
         subst (λ t. GivesSheet (judge sheet) r t left right left' right') (sym priced)
         (subst (λ j. GivesSheet j r costs left right left' right') (sym told) (tree .tree costs))
-
--- the first t of a list, as a part that is lent
-pub part-first : (l : List ℕ) (t : ℕ) → take (t - 0) (drop 0 l) ≡ take t l
-part-first l t = let same : t - 0 ≡ t = omega arith in ap (λ k. take k l) same
-
-pub part-long : (l : List ℕ) (t : ℕ) → t ≤ length l → t ≤ length (take (t - 0) (drop 0 l))
-part-long l t h =
-    let long : length (take t l) ≡ t = length-take-le t l h in
-    let same = ap length (part-first l t) in
-    omega arith

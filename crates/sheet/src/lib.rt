@@ -98,7 +98,7 @@ pub fn read_sheet(
 }
 
 // The set of states of a cell's symbol.
-fn cell_of(byte: u8) -> Cell
+fn symbol_cell(byte: u8) -> Cell
     ensures { λ r. ⌜ r ≡ symbolSet byte ⌝ }
 {
     match symbol_of(byte) {
@@ -121,7 +121,7 @@ pub fn put_cells(
 {
     let mut r = 0;
     while r < t {
-        cells[r] = cell_of(sheet[at + r * (c + 1) + j]);
+        cells[r] = symbol_cell(sheet[at + r * (c + 1) + j]);
         r += 1;
     }
 }

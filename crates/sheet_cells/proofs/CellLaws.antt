@@ -56,13 +56,13 @@ module _ (sheet : List ℕ) (c : ℕ) where
       by-row (wrong f w) rest h = let z : _≡_ {A = ℕ} 0 1 = cc in absurd (omega arith)
 
   -- the first fault of a section that is refused
-  pub rows-refused : (n at line : ℕ) (before : List ℕ) (f : Fault)
+  pub cell-rows-refused : (n at line : ℕ) (before : List ℕ) (f : Fault)
       → section (rowJudge c sheet) n at line before .part ≡ Wrong f
       → FirstFault sheet c n at line f
   unfolding section follow rowJudge
-  rows-refused zero at line before f e = let z : _≡_ {A = ℕ} 0 1 = cc in absurd (omega arith)
-  rows-refused (suc n) at line before f e =
-      by-row (row-is sheet c at line) (λ i items. rows-refused n i (line + 1) items f) e
+  cell-rows-refused zero at line before f e = let z : _≡_ {A = ℕ} 0 1 = cc in absurd (omega arith)
+  cell-rows-refused (suc n) at line before f e =
+      by-row (row-is sheet c at line) (λ i items. cell-rows-refused n i (line + 1) items f) e
     where
       later : (i : ℕ) → i ≡ at + (c + 1) → IsRow sheet c at → FirstFault sheet c n i (line + 1) f
           → FirstFault sheet c (suc n) at line f

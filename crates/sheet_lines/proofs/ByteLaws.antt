@@ -28,11 +28,11 @@ pub test-no : {r b : Bool} → r ≡ b → not r ≡ true → b ≡ false
 test-no {r} e n = sym e ∙ not-true r n
 
 -- two tests in one
-pub both-true : (a b : Bool) → both a b ≡ true → (a ≡ true) × (b ≡ true)
+pub both-parts : (a b : Bool) → both a b ≡ true → (a ≡ true) × (b ≡ true)
 unfolding both
-both-true true b e = (refl, e)
-both-true false true e = (e, refl)
-both-true false false e = (e, e)
+both-parts true b e = (refl, e)
+both-parts false true e = (e, refl)
+both-parts false false e = (e, e)
 
 pub within-low : (least most byte : ℕ) → byte < least → false ≡ within least most byte
 unfolding within both
@@ -50,7 +50,7 @@ within-yes least most byte l h = rw (le-leb least byte l, le-leb byte most h)
 pub within-told : (least most byte : ℕ) → within least most byte ≡ true → (least ≤ byte) × (byte ≤ most)
 unfolding within
 within-told least most byte e =
-    let e₂ = both-true (leb least byte) (leb byte most) e in
+    let e₂ = both-parts (leb least byte) (leb byte most) e in
     (leb-true least byte (e₂ .0), leb-true byte most (e₂ .1))
 
 -- the text between two places, byte by byte

@@ -37,9 +37,9 @@ unfolding lineEnd bytes
 line-delete = refl
 
 -- past the end there is no line
-pub line-past : lineEnd (bytes "ab\n") 7 ≡ Nowhere
+pub line-beyond-the-end : lineEnd (bytes "ab\n") 7 ≡ Nowhere
 unfolding lineEnd bytes
-line-past = refl
+line-beyond-the-end = refl
 
 -- a number goes up to the first byte that is no digit
 pub number-512 : numberAt 512 (bytes "x512\n") 1 ≡ Value 512 4
@@ -47,9 +47,9 @@ unfolding numberAt bytes
 number-512 = refl
 
 -- after a zero the number is over: what follows is no part of it
-pub number-zero : numberAt 512 (bytes "07\n") 0 ≡ Value 0 1
+pub number-leading-zero : numberAt 512 (bytes "07\n") 0 ≡ Value 0 1
 unfolding numberAt bytes
-number-zero = refl
+number-leading-zero = refl
 
 -- a number above its limit is none, however many digits it has
 pub number-513 : numberAt 512 (bytes "513\n") 0 ≡ NoNumber

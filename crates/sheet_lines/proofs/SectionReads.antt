@@ -14,7 +14,7 @@ use Rattle.parsimony.proofs.Order.{by-eq}
 
 -- item i of a section whose first line has the number first: it was judged by the items before it, at some place of
 -- line first + i
-pub record Judged {A : Type 0} (judge : List A → ℕ → ℕ → Item A) (first : ℕ) (items : List A) (i : ℕ) (d : A)
+pub record ItemJudged {A : Type 0} (judge : List A → ℕ → ℕ → Item A) (first : ℕ) (items : List A) (i : ℕ) (d : A)
     : Type 0 where
   pub place : ℕ
   pub next : ℕ
@@ -51,7 +51,7 @@ module _ {A : Type 0} (judge : List A → ℕ → ℕ → Item A) where
 
   here : (first line : ℕ) (before more items : List A) (d a : A) (at next : ℕ) → line ≡ first + length before
       → items ≡ (before ++ a ∷ []) ++ more → judge before at line ≡ item a next
-      → Judged judge first items (length before) d
+      → ItemJudged judge first items (length before) d
   here first line before more items d a at next number same judged =
       let whole : items ≡ before ++ a ∷ more = same ∙ append-assoc before (a ∷ []) more in
       record {
@@ -63,7 +63,7 @@ module _ {A : Type 0} (judge : List A → ℕ → ℕ → Item A) where
   -- each item was judged by those before it
   pub section-judged : (n at line first : ℕ) (before : List A) (d : A) → line ≡ first + length before
       → (i : ℕ) → length before ≤ i → i < length (section judge n at line before .items)
-      → Judged judge first (section judge n at line before .items) i d
+      → ItemJudged judge first (section judge n at line before .items) i d
   unfolding section follow
   section-judged zero at line first before d number i low high = absurd (omega arith)
   section-judged (suc n) at line first before d number i low high =
@@ -73,14 +73,14 @@ module _ {A : Type 0} (judge : List A → ℕ → ℕ → Item A) where
       by-item : (x : Item A) → judge before at line ≡ x
           → ((a : A) (next : ℕ) → length (before ++ a ∷ []) ≤ i
           → i < length (section judge n next (line + 1) (before ++ a ∷ []) .items)
-          → Judged judge first (section judge n next (line + 1) (before ++ a ∷ []) .items) i d)
+          → ItemJudged judge first (section judge n next (line + 1) (before ++ a ∷ []) .items) i d)
           → i < length (follow x before (λ items next. section judge n next (line + 1) items) .items)
-          → Judged judge first (follow x before (λ items next. section judge n next (line + 1) items) .items) i d
+          → ItemJudged judge first (follow x before (λ items next. section judge n next (line + 1) items) .items) i d
       by-item (item a next) e rest h =
           by-eq (length before) i
           (λ same.
           let p = section-prefix n next (line + 1) (before ++ a ∷ []) in
-          subst (λ k. Judged judge first (section judge n next (line + 1) (before ++ a ∷ []) .items) k d) same
+          subst (λ k. ItemJudged judge first (section judge n next (line + 1) (before ++ a ∷ []) .items) k d) same
           (here first line before (p .0) _ d a at next number (p .1) e))
           (λ other. rest a next (omega (arith, longer before a)) h)
       by-item (fault f) e rest h = absurd (omega arith)

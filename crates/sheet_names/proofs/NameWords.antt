@@ -9,7 +9,7 @@ use native.Mathlib.Omega.{arith}
 use borrow.Author.Tests.{eqb-true, eq-eqb}
 use lib.Dec.{eqb}
 use lib.ListN.{length, getD}
-use Rattle.sheet_lines.proofs.ByteLaws.{both-true, within-told, within-yes, text-length}
+use Rattle.sheet_lines.proofs.ByteLaws.{both-parts, within-told, within-yes, text-length}
 use Rattle.sheet_lines.proofs.EveryLaws.{every-told, every-found}
 use Rattle.sheet_lines.specs.Bytes.{within, textOf, every}
 use Rattle.sheet_lines.specs.IsLine.{IsLine}
@@ -70,7 +70,7 @@ pub name-line-told : (sheet : List ℕ) (at end : ℕ) → IsLine sheet at end �
 unfolding isName
 name-line-told sheet at end line e =
     let inside = line .inside in
-    let both = both-true (within 1 32 (length (textOf sheet at end))) (every isNameByte (textOf sheet at end)) e in
+    let both = both-parts (within 1 32 (length (textOf sheet at end))) (every isNameByte (textOf sheet at end)) e in
     let size = within-told 1 32 (length (textOf sheet at end)) (both .0) in
     record {
       line = line;

@@ -28,7 +28,7 @@ unfolding sheetOf
 sheet-paper = refl
 
 -- four lines of costs, by the parent's state and then the child's
-pub sheet-costs : sheetOf (bytes "names 1\na\ncolumns 0\n\ncosts 4\n0 1 2 3\n4 0 5 6\n7 8 0 9\n10 11 999 0\ntree 1\n")
+pub sheet-with-costs : sheetOf (bytes "names 1\na\ncolumns 0\n\ncosts 4\n0 1 2 3\n4 0 5 6\n7 8 0 9\n10 11 999 0\ntree 1\n")
     ≡ record {
       names = 8 ∷ [];
       rest = record {
@@ -37,7 +37,7 @@ pub sheet-costs : sheetOf (bytes "names 1\na\ncolumns 0\n\ncosts 4\n0 1 2 3\n4 0
       };
     }
 unfolding sheetOf
-sheet-costs = refl
+sheet-with-costs = refl
 
 -- refused: nothing at all; a file with CR LF; a last line without its end
 pub sheet-empty : read "" ≡ Faulty (Sheet 1)
@@ -146,9 +146,9 @@ pub costs-zero : read "names 1\na\ncolumns 0\n\ncosts 4\n0 01 1 1\n1 0 1 1\n1 1 
 unfolding read
 costs-zero = refl
 
-pub costs-few : read "names 1\na\ncolumns 0\n\ncosts 4\n0 1 1 1\n1 0 1 1\n1 1 0\n1 1 1 0\ntree 1\n" ≡ Faulty (Sheet 8)
+pub costs-line-of-three : read "names 1\na\ncolumns 0\n\ncosts 4\n0 1 1 1\n1 0 1 1\n1 1 0\n1 1 1 0\ntree 1\n" ≡ Faulty (Sheet 8)
 unfolding read
-costs-few = refl
+costs-line-of-three = refl
 
 pub costs-many : read "names 1\na\ncolumns 0\n\ncosts 4\n0 1 1 1\n1 0 1 1\n1 1 0 1 1\n1 1 1 0\ntree 1\n"
     ≡ Faulty (Sheet 8)

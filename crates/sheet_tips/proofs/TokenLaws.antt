@@ -22,8 +22,8 @@ use Rattle.sheet_tips.specs.Token.{tokenIn, tokenEnd, isLineOf, findIn, 
 pub nowhere-at : {r : ℕ} → Nowhere ≡ At r → ⊥
 nowhere-at e = let z : _≡_ {A = ℕ} 0 1 = cc in omega arith
 
-pub at-same : {q r : ℕ} → At q ≡ At r → q ≡ r
-at-same e = cc
+pub place-same : {q r : ℕ} → At q ≡ At r → q ≡ r
+place-same e = cc
 
 -- a name goes on over a byte that may stand in one
 pub token-more : (sheet : List ℕ) (i : ℕ) → i < length sheet → isNameByte (getD sheet i 0) ≡ true
@@ -84,7 +84,7 @@ find-below sheet i e (place ∷ places) from r h =
     go : (b : Bool) → pick b (At from) (findIn sheet i e places (from + 1)) ≡ At r
         → (findIn sheet i e places (from + 1) ≡ At r → r < from + 1 + length places) → r < from + suc (length places)
     go true g more =
-        let same : from ≡ r = at-same (sym (pick-true (At from) (findIn sheet i e places (from + 1)) refl) ∙ g) in
+        let same : from ≡ r = place-same (sym (pick-true (At from) (findIn sheet i e places (from + 1)) refl) ∙ g) in
         omega arith
     go false g more =
         let low = more (sym (pick-false (At from) (findIn sheet i e places (from + 1)) refl) ∙ g) in

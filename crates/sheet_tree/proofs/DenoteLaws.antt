@@ -14,7 +14,7 @@ use Rattle.parsimony.specs.Test.{pick}
 use Rattle.parsimony.proofs.Order.{by-lt, pick-true, pick-false, at-same}
 use Rattle.sheet_lines.specs.Bytes.{textOf, every}
 use Rattle.sheet_lines.specs.declared.Place.the-variants.{At}
-use Rattle.sheet_lines.proofs.ByteLaws.{both-true, text-on}
+use Rattle.sheet_lines.proofs.ByteLaws.{both-parts, text-on}
 use Rattle.sheet_names.specs.Name.{isNameByte}
 use Rattle.sheet_tips.specs.Marks.{isMarked, marked, IsMarks}
 use Rattle.sheet_tips.specs.Tip.{Parsed, got, tipOf}
@@ -138,7 +138,7 @@ module _ (sheet names : List ℕ) (t : ℕ) (named : t ≤ length names) (differ
   name-first : (r i e : ℕ) → IsName sheet names t r i e → isNameByte (getD sheet i 0) ≡ true
   unfolding every
   name-first r i e is =
-      both-true (isNameByte (getD sheet i 0)) (every isNameByte (textOf sheet (i + 1) e))
+      both-parts (isNameByte (getD sheet i 0)) (every isNameByte (textOf sheet (i + 1) e))
       (sym (ap (every isNameByte) (text-on sheet i e (is .some) (is .inside))) ∙ is .name .plain) .0
 
   name-open : (r i e : ℕ) → IsName sheet names t r i e → getD sheet i 0 ≡ code "(" → ⊥

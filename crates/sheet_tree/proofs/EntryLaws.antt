@@ -63,7 +63,7 @@ module _ (left right : List ℕ) where
               ∙ at-second (rights a n) rr (vineNodes a) i (sym pa)
               ∙ at-first (rights b (n + vineNodes a)) ((n + vineNodes a + vineNodes b - 1) ∷ []) i (omega arith)),
           node-inner left right (n + vineNodes a + vineNodes b) (n + vineNodes a - 1)
-              (n + vineNodes a + vineNodes b - 1) (omega arith)
+              (n + vineNodes a + vineNodes b - 1) (λ e. omega arith)
               ((let place : n + vineNodes a + vineNodes b ≡ n + (vineNodes a + (vineNodes b + 0)) = omega arith in
               ap (λ k. getD left k 0) place)
               ∙ l (vineNodes a + (vineNodes b + 0)) (omega arith)

@@ -41,9 +41,9 @@ module _ (sheet names : List ℕ) (t at end : ℕ) where
       (pick (both (eqb (e + 1) end) (eqb (vineNodes vine + 1) (2 * t))) (got vine e marks) noTree)
 
   -- no line without a tree
-  pub line-none : treeOf sheet names t 128 (unmarked 512) at ≡ noTree → lineTree sheet names t at end ≡ noTree
+  pub line-tree-none : treeOf sheet names t 128 (unmarked 512) at ≡ noTree → lineTree sheet names t at end ≡ noTree
   unfolding lineTree onParsed
-  line-none none = ap (λ p. onParsed p afterTree) none
+  line-tree-none none = ap (λ p. onParsed p afterTree) none
 
   module _ (left right : List ℕ) (e n : ℕ) (left' right' marks' : List ℕ)
       (tree : Got (treeOf sheet names t 128 (unmarked 512) at) 0 left right e n left' right' marks') where
@@ -63,9 +63,9 @@ module _ (sheet names : List ℕ) (t at end : ℕ) where
         omega arith
 
     -- nor without `;`
-    pub line-stop : eqb (getD sheet e 0) (code ";") ≡ false → lineTree sheet names t at end ≡ noTree
+    pub line-tree-stop : eqb (getD sheet e 0) (code ";") ≡ false → lineTree sheet names t at end ≡ noTree
     unfolding onByte
-    line-stop none = line-on ∙ pick-false _ _ none
+    line-tree-stop none = line-on ∙ pick-false _ _ none
 
     module _ (stop : eqb (getD sheet e 0) (code ";") ≡ true) where
       line-next : lineTree sheet names t at end

@@ -16,7 +16,7 @@ use Rattle.sheet_lines.specs.Count.{onPlace}
 use Rattle.sheet_lines.specs.Word.{wordIn, wordOf}
 use Rattle.sheet_lines.specs.declared.Place.{Place}
 use Rattle.sheet_lines.specs.declared.Place.the-variants.{At, Nowhere}
-use Rattle.sheet_lines.proofs.ByteLaws.{both-true, text-on, text-end, every-on}
+use Rattle.sheet_lines.proofs.ByteLaws.{both-parts, text-on, text-end, every-on}
 use Rattle.sheet_names.specs.Name.{isNameByte}
 use Rattle.sheet_tips.specs.Token.{tokenEnd, isLineOf, rowNamed}
 use Rattle.sheet_tips.proofs.TokenLaws.{
@@ -31,7 +31,7 @@ use Rattle.sheet_tips.proofs.TokenLaws.{
   search-more,
   search-none,
   nowhere-at,
-  at-same,
+  place-same,
 }
 use Rattle.sheet_tree.specs.Denotes.{IsName, Different}
 
@@ -39,7 +39,7 @@ use Rattle.sheet_tree.specs.Denotes.{IsName, Different}
 word-begins : (word bytes : List ℕ) (i stop : ℕ) → wordIn word bytes i ≡ At stop
     → (rest : List ℕ) × (bytes ≡ word ++ rest) × (stop ≡ i + length word)
 unfolding wordIn
-word-begins [] bytes i stop h = (bytes, refl, let e = at-same h in omega arith)
+word-begins [] bytes i stop h = (bytes, refl, let e = place-same h in omega arith)
 word-begins (letter ∷ word) [] i stop h = absurd (nowhere-at h)
 word-begins (letter ∷ word) (byte ∷ bytes) i stop h =
     go (eqb byte letter) refl h (λ g. word-begins word bytes (i + 1) stop g)
@@ -136,7 +136,7 @@ module _ (sheet : List ℕ) where
       (λ k. token-end sheet i k ∙ same)
   token-of (suc d) i l h n =
       let split : isNameByte (getD sheet i 0) ≡ true =
-      both-true (isNameByte (getD sheet i 0)) (every isNameByte (textOf sheet (i + 1) (i + suc d)))
+      both-parts (isNameByte (getD sheet i 0)) (every isNameByte (textOf sheet (i + 1) (i + suc d)))
       (sym (ap (every isNameByte) (text-on sheet i (i + suc d) (omega arith) l)) ∙ h) .0 in
       let same : i + suc d ≡ i + 1 + d = omega arith in
       let rest : every isNameByte (textOf sheet (i + 1) (i + suc d)) ≡ true =
@@ -152,7 +152,7 @@ module _ (sheet : List ℕ) where
     row-search zero q r left h = absurd (nowhere-at (sym (search-none sheet names t i e q few (omega arith)) ∙ h))
     row-search (suc d) q r left h =
         by-test (isLineOf sheet i e (getD names q 0))
-        (λ y. let same = at-same (sym (search-found sheet names t i e q few (omega arith) y) ∙ h) in
+        (λ y. let same = place-same (sym (search-found sheet names t i e q few (omega arith) y) ∙ h) in
         (omega arith, ap (λ k. isLineOf sheet i e (getD names k 0)) (sym same) ∙ y))
         (λ n. row-search d (q + 1) r (omega arith) (sym (search-more sheet names t i e q few (omega arith) n) ∙ h))
 
@@ -172,9 +172,9 @@ module _ (sheet : List ℕ) where
         (λ n. search-more sheet names t i e q few (omega arith) n ∙ row-sought d (q + 1) r (omega arith) low y only)
 
     -- and where one row's name alone is the text, it is found
-    pub row-is : (r : ℕ) → r < t → isLineOf sheet i e (getD names r 0) ≡ true
+    pub named-row-is : (r : ℕ) → r < t → isLineOf sheet i e (getD names r 0) ≡ true
         → ((p : ℕ) → p < t → isLineOf sheet i e (getD names p 0) ≡ true → p ≡ r) → rowNamed sheet names t i e ≡ At r
-    row-is r low y only = sym (search-begin sheet names t i e) ∙ row-sought r 0 r (omega arith) low y only
+    named-row-is r low y only = sym (search-begin sheet names t i e) ∙ row-sought r 0 r (omega arith) low y only
 
   -- the name that is read at a place is a name by the grammar
   pub name-read : (names : List ℕ) (t i r : ℕ) → t ≤ length names → (tokenEnd sheet i ≡ i → ⊥)
@@ -210,7 +210,7 @@ module _ (sheet : List ℕ) where
       (ap (λ k. every isNameByte (textOf sheet i k)) same ∙ is .name .plain)
       (ap (λ k. isNameByte (getD sheet k 0)) same ∙ stop) in (
         end ∙ same,
-        row-is names t i e few r (is .row) (line-is sheet i e (getD names r 0) (is .name .after) (is .name .line))
+        named-row-is names t i e few r (is .row) (line-is sheet i e (getD names r 0) (is .name .after) (is .name .line))
             (λ p low y. let (after, line) = line-told sheet i e (getD names p 0) y in
             different .rows p r (textOf sheet i e) low (is .row) (record {
               after = after;

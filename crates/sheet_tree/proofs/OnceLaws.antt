@@ -38,7 +38,7 @@ use Rattle.sheet_tree.proofs.SpanLaws.{size-tip, size-pair}
 use Rattle.sheet_tree.proofs.EntryLaws.{Rows}
 use Rattle.sheet_tree.proofs.TableLaws.{vine-legal, vine-tips, vine-handed}
 use Rattle.parsimony.specs.Table.{symbol, handed, nodeAt, tips, Legal}
-use Rattle.sheet_lines.proofs.ByteLaws.{both-true}
+use Rattle.sheet_lines.proofs.ByteLaws.{both-parts}
 
 -- each name of the tree is one of the t, was not marked, and is marked now; all other marks are as before
 pub record Once (t : ℕ) (marks : List ℕ) (vine : Vine) (marks' : List ℕ) : Type 0 where
@@ -144,7 +144,7 @@ line-from sheet names t at end vine e marks h =
     go v f m tree stop true y g =
         let same = sym (pick-true (got v f m) noTree refl) ∙ g in
         let (ev, ef, em) = got-same same in
-        let (a, b) = both-true (eqb (f + 1) end) (eqb (vineNodes v + 1) (2 * t)) y in
+        let (a, b) = both-parts (eqb (f + 1) end) (eqb (vineNodes v + 1) (2 * t)) y in
         record {
           tree = tree ∙ same;
           stop = ap (λ k. getD sheet k 0) (sym ef) ∙ stop;

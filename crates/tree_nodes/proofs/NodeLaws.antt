@@ -1,19 +1,17 @@
--- What the entries of a node say, and the count of the tips at one node more.
+-- Whether a node is a tip, as a number, and the count of the tips at one node more.
 -- Assumes nothing.
 use mathlib.Core.Bool.{Bool, true, false}
 use mathlib.Core.List.{List}
-use mathlib.Core.Path.{_≡_, refl, ap, sym, _∙_}
-use Prim.Native.Nat.{ℕ, _+_, _-_, _*_, _≤_, _<_}
+use mathlib.Core.Path.{_≡_, refl, ap, _∙_}
+use Prim.Native.Nat.{ℕ, _+_, _-_, _*_, _≤_}
 use native.Mathlib.Nat.{mul-le-mul}
 use native.Mathlib.Numerals.{add-one}
 use native.Mathlib.Omega.{arith}
-use borrow.Author.Tests.{eq-eqb, ne-eqb, lt-ltb, le-ltb}
 use lib.Dec.{eqb, ltb}
 use lib.ListN.{getD}
 use Rattle.parsimony.specs.Sum.{sum}
 use Rattle.parsimony.specs.Table.{Kind, symbol, handed, Node, leaf, inner, leafAt, nodeAt, isTip, tips}
 use Rattle.parsimony.specs.Test.{pick}
-use Rattle.parsimony.proofs.Order.{pick-true, pick-false}
 use Rattle.parsimony.proofs.Sums.{sum-suc, sum-zero, sum-le, sum-scale}
 use Rattle.parsimony.proofs.TipLaws.{sum-ones}
 
@@ -27,22 +25,6 @@ pub units-le : (a b : ℕ) → a ≤ 1 → b ≤ 1 → a * b ≤ 1
 units-le a b h k = mul-le-mul h k
 
 module _ (left right : List ℕ) (v : ℕ) where
-  -- a tip whose right entry is below 32,768 is a symbol tip with that row
-  pub node-symbol : getD left v 0 ≡ 65535 → getD right v 0 < 32768 → leaf symbol (getD right v 0) ≡ nodeAt left right v
-  unfolding nodeAt leafAt
-  node-symbol h i = sym (pick-true _ _ (eq-eqb _ _ h) ∙ pick-true _ _ (lt-ltb _ _ i))
-
-  -- any other tip is a handed tip
-  pub node-handed : getD left v 0 ≡ 65535 → 32768 ≤ getD right v 0
-      → leaf handed (getD right v 0 - 32768) ≡ nodeAt left right v
-  unfolding nodeAt leafAt
-  node-handed h i = sym (pick-true _ _ (eq-eqb _ _ h) ∙ pick-false _ _ (le-ltb _ _ i))
-
-  -- a node whose left entry is not 65,535 is inner
-  pub node-inner : (getD left v 0 ≡ 65535 → ⊥) → inner (getD left v 0) (getD right v 0) ≡ nodeAt left right v
-  unfolding nodeAt
-  node-inner h = sym (pick-false _ _ (ne-eqb _ _ h))
-
   -- the two tests of the node's entries as numbers: their product says whether it is a symbol tip or a handed tip
   abbrev isLeaf : ℕ
   isLeaf = pick (eqb (getD left v 0) 65535) 1 0

@@ -6,7 +6,7 @@ use native.Mathlib.Omega.{arith}
 use borrow.Author.Needs.{needs}
 use Rattle.promises.specs.Answers.{carriedBy, answerOf, valueOf}
 use Rattle.promises.specs.declared.Answer.the-variants.{Refused}
-use Rattle.calls.proofs.CodeLaws.{count-done, count-refused}
+use Rattle.calls.proofs.CodeLaws.{done-code, refused-code}
 use Rattle.calls.proofs.count_code.Statement.{statement}
 use Rattle.calls.specs.Coded.{countCode}
 use Rattle.calls.proofs.count_code.Tie as tie
@@ -31,13 +31,13 @@ refusal-code-requires c κs =
 returns : tie.Need-returns
 returns c =
     let k = c .before .counted .given .0 .0 in
-    count-done k ∙ ap countCode (sym (c .before .counted .given .1))
+    done-code k ∙ ap countCode (sym (c .before .counted .given .1))
 
 returns-2 : tie.Need-returns-2
 returns-2 c =
     let counted2 = c .before .before .counted2 in
     c .refusal-code .ensures
-    ∙ count-refused (Refused (counted2 .given .0 .0))
+    ∙ refused-code (Refused (counted2 .given .0 .0))
     ∙ ap countCode (sym (counted2 .given .1))
 
 pub count-code-spec : {M : Type 1} → statement M

@@ -42,7 +42,7 @@ reach-set-requires c κs =
     let start = c .before .before .before .before .before .before in
     let inv = turn .inv in
     let cheap =
-    cheap-row _ _ (turn .x) (start .pre .0 .0) (start .pre .0 .1) (c .before .before .loop-test .taken) in
+    cheap-row _ _ (turn .x) (start .pre .0) (c .before .before .loop-test .taken) in
     (subst (λ k. Cheap (start .args .costs .now) k (start .args .s)) (sym (inv .1)) cheap, start .pre .1)
 
 union-requires : tie.Need-union-requires Inv-loop μ-loop
@@ -57,7 +57,7 @@ add-from c =
     let start = c .before .before .before .before .before .before in
     let inv = turn .inv in
     let cheap =
-    cheap-row (start .args .costs .now) (start .args .s) (turn .x) (start .pre .0 .0) (start .pre .0 .1)
+    cheap-row (start .args .costs .now) (start .args .s) (turn .x) (start .pre .0)
     (c .before .before .loop-test .taken) in
     omega (arith, cheap .inside, inv .1, start .good)
 

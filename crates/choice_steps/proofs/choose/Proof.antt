@@ -35,7 +35,7 @@ mul-from c =
 
 through-requires : tie.Need-through-requires Inv-loop μ-loop
 through-requires c κs = (
-  cheap-row _ _ _ (c .before .before .pre .0 .0) (c .before .before .pre .0 .1) (c .before .before .pre .1 .1 .0),
+  cheap-row _ _ _ (c .before .before .pre .0) (c .before .before .pre .1 .1 .0),
   (c .before .before .pre .1 .0, omega (arith, c .before .before .pre .1 .1)),
 )
 
@@ -53,7 +53,7 @@ loop-holds c =
 through-requires-2 : tie.Need-through-requires-2 Inv-loop μ-loop
 through-requires-2 c κs =
     let start = c .before .before .before .before .before in (
-      cheap-row _ _ _ (start .pre .0 .0) (start .pre .0 .1) (start .pre .1 .1 .0),
+      cheap-row _ _ _ (start .pre .0) (start .pre .1 .1 .0),
       (start .pre .1 .0, c .loop-test .taken),
     )
 

@@ -1,7 +1,7 @@
 -- `put_line` meets its contract.
 -- Assumes nothing.
-use Rattle.report_pages.proofs.PrintSteps.{part-size}
-use Rattle.report_pages.proofs.PageSteps.{printed-inside, line-of, put-inside, byte-inside}
+use Rattle.sheet_lines.proofs.PartLaws.{part-size}
+use Rattle.report_pages.proofs.PageSteps.{printed-inside, line-of, put-inside, line-end-inside}
 use native.Mathlib.Omega.{arith}
 use borrow.Author.Needs.{needs}
 use Rattle.report_pages.proofs.put_line.Statement.{statement}
@@ -84,7 +84,7 @@ returns c =
     let told2 = c2 .sheet-line .ensures .0 in (
       line-of _ _ _ _ _ _ (start .pre .0) _ after _ _ told2 _ _ _ _ _ _ (c1 .put-text .ensures) told,
       c2 .sheet-line .ensures .1,
-      byte-inside _ _ _ _
+      line-end-inside _ _ _ _
           (put-inside _ _ _ _ _ _ (start .pre .0) _ after _ _ told2 _ _ _ _
           (let l = start .pre .1 .1 .0 in let k = same in omega arith) (start .pre .1 .1 .1)
           (printed-inside _ _ _ _ _ _ (start .pre .0) _ after _ _ told2 same) (c1 .put-text .ensures)

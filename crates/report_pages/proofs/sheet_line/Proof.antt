@@ -8,9 +8,8 @@ use Rattle.report_pages.proofs.PrintSteps.{
   printable-table,
   printable-allowed,
   printable-line,
-  part-first,
-  part-size,
 }
+use Rattle.sheet_lines.proofs.PartLaws.{part-first, part-size}
 use mathlib.Core.Path.{_∙_, sym, subst}
 use native.Mathlib.Omega.{arith}
 use borrow.Author.Needs.{needs}

@@ -37,7 +37,7 @@ join-entry-requires c κs =
     let turn = c .before .before .loop in
     let start = c .before .before .before .before .before in
     let inv = turn .inv in
-    let cheap = cheap-row _ _ (turn .x) (start .pre .0 .0) (start .pre .0 .1) (c .before .loop-test .taken) in (
+    let cheap = cheap-row _ _ (turn .x) (start .pre .0) (c .before .loop-test .taken) in (
       subst (λ k. Cheap (start .args .costs .now) k (start .args .s)) (sym (inv .1)) cheap,
       (
         (
@@ -66,7 +66,7 @@ add-from c =
     let start = c .before .before .before .before .before .before in
     let inv = turn .inv in
     let cheap =
-    cheap-row (start .args .costs .now) (start .args .s) (turn .x) (start .pre .0 .0) (start .pre .0 .1)
+    cheap-row (start .args .costs .now) (start .args .s) (turn .x) (start .pre .0)
     (c .before .before .loop-test .taken) in
     omega (arith, cheap .inside, inv .1, start .good)
 

@@ -10,6 +10,7 @@ use Rattle.parsimony.proofs.ColumnLaws.{cell-place}
 use Rattle.parsimony.proofs.WrittenLaws.{wrote-same}
 use Rattle.promises.specs.Input.{Input, input}
 use Rattle.tree_nodes.specs.NodeOf.{nodeOf}
+use Rattle.row_step.proofs.LaneLaws.{rules-cheap}
 use Rattle.rows_up.proofs.PlaceLaws.{row-inside, product-fits}
 use Rattle.rows_up.proofs.RowSteps.{
   CalmKids,
@@ -162,7 +163,7 @@ inner-row-requires c κs =
     let costs = start .pre .0 .costs in
     let kids = kids-at (c .before .before) in
     let last = room start in (
-      (costs .count, costs .cheap),
+      rules-cheap _ _ costs,
       ((search needs, search needs), ((omega (arith, costs .fewest), costs .most), omega arith)),
     )
 

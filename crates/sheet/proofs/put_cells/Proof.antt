@@ -1,4 +1,4 @@
--- `sheet::put_cells` meets its contract. The invariant: the cells of the rows below r are put.
+-- `put_cells` meets its contract. The invariant: the cells of the rows below r are put.
 -- The measure is the number of rows left.
 -- Assumes nothing.
 use Rattle.sheet.proofs.CellSteps.{filled-none, filled-more, filled-few}
@@ -18,32 +18,32 @@ abbrev μ-loop : tie.MeasureT-loop
 loop-holds : tie.Need-loop-holds Inv-loop μ-loop
 loop-holds c = (omega arith, filled-none _ _ _ _ _ (c .before .pre .3))
 
-add-cell-of : tie.Need-add-cell-of Inv-loop μ-loop
-add-cell-of c = search needs
+add-symbol-cell : tie.Need-add-symbol-cell Inv-loop μ-loop
+add-symbol-cell c = search needs
 
-mul-cell-of : tie.Need-mul-cell-of Inv-loop μ-loop
-mul-cell-of c = record {
+mul-symbol-cell : tie.Need-mul-symbol-cell Inv-loop μ-loop
+mul-symbol-cell c = record {
   fits = (let i = c .before .before .before .pre .2 .cell _ (c .loop-test .taken) in let g =
       c .before .before .before .good .0 .0 in omega arith);
 }
 
-add-cell-of-2 : tie.Need-add-cell-of-2 Inv-loop μ-loop
-add-cell-of-2 c = record {
+add-symbol-cell-2 : tie.Need-add-symbol-cell-2 Inv-loop μ-loop
+add-symbol-cell-2 c = record {
   fits = (let i = c .before .before .before .pre .2 .cell _ (c .loop-test .taken) in let g =
       c .before .before .before .good .0 .0 in omega arith);
 }
 
-add-cell-of-3 : tie.Need-add-cell-of-3 Inv-loop μ-loop
-add-cell-of-3 c = record {
+add-symbol-cell-3 : tie.Need-add-symbol-cell-3 Inv-loop μ-loop
+add-symbol-cell-3 c = record {
   fits = (let i = c .before .before .before .pre .2 .cell _ (c .loop-test .taken) in let g =
       c .before .before .before .good .0 .0 in omega arith);
 }
 
-shared-slice-read-cell-of : tie.Need-shared-slice-read-cell-of Inv-loop μ-loop
-shared-slice-read-cell-of c = c .before .before .before .before .pre .2 .cell _ (c .before .loop-test .taken)
+shared-slice-read-symbol-cell : tie.Need-shared-slice-read-symbol-cell Inv-loop μ-loop
+shared-slice-read-symbol-cell c = c .before .before .before .before .pre .2 .cell _ (c .before .loop-test .taken)
 
-cell-of-requires : tie.Need-cell-of-requires Inv-loop μ-loop
-cell-of-requires c κs = search needs
+symbol-cell-requires : tie.Need-symbol-cell-requires Inv-loop μ-loop
+symbol-cell-requires c κs = search needs
 
 mul-cells : tie.Need-mul-cells Inv-loop μ-loop
 mul-cells c = search needs
@@ -63,7 +63,7 @@ loop-again c = (
   let l = c .before .before .loop-test .taken in omega arith,
   filled-more _ _ _ _ _ _ _ (let l = c .before .before .loop-test .taken in let few =
       c .before .before .before .before .before .pre .0 in omega arith)
-      (c .cell-of .ensures) (c .before .before .before .loop .inv .1),
+      (c .symbol-cell .ensures) (c .before .before .before .loop .inv .1),
 )
 
 returns : tie.Need-returns Inv-loop μ-loop
@@ -76,12 +76,12 @@ put-cells-spec =
     Inv-loop
     μ-loop
     loop-holds
-    add-cell-of
-    mul-cell-of
-    add-cell-of-2
-    add-cell-of-3
-    shared-slice-read-cell-of
-    cell-of-requires
+    add-symbol-cell
+    mul-symbol-cell
+    add-symbol-cell-2
+    add-symbol-cell-3
+    shared-slice-read-symbol-cell
+    symbol-cell-requires
     mul-cells
     element-write-cells
     add-r

@@ -1,4 +1,4 @@
--- `sheet::read_sheet` meets its contract, case by case.
+-- `read_sheet` meets its contract, case by case.
 -- Assumes nothing.
 use Rattle.sheet.proofs.ReadSteps.{
   sections-few,
@@ -6,9 +6,8 @@ use Rattle.sheet.proofs.ReadSteps.{
   sheet-long,
   sheet-faulty,
   sheet-tree,
-  part-first,
-  part-long,
 }
+use Rattle.sheet_lines.proofs.PartLaws.{part-first, part-size}
 use native.Mathlib.Omega.{arith}
 use borrow.Author.Needs.{needs}
 use Rattle.sheet.proofs.read_sheet.Statement.{statement}
@@ -47,9 +46,11 @@ read-tree-line-requires c κs =
     let start = c2 .before .before .before .before .before .before in (
       (
         sections-few _ _ _ _ _ _ (c2 .read-sections .ensures) _ (c1 .s .given .1),
-        part-long _
-            _ (let few = sections-few _ _ _ _ _ _ (c2 .read-sections .ensures) _ (c1 .s .given .1) in let long =
-            start .pre .0 .0 in let same = c2 .read-sections .kept .1 .0 in omega arith),
+        (let few = sections-few _ _ _ _ _ _ (c2 .read-sections .ensures) _ (c1 .s .given .1) in
+            let long = start .pre .0 .0 in
+            let same = c2 .read-sections .kept .1 .0 in
+            let size = part-size (c2 .read-sections .last .1 .0) (c1 .s .given .0 .0 .tips) (omega arith) in
+            omega (arith, size)),
         start .pre .1 .0,
         start .pre .1 .1,
       ),

@@ -1,4 +1,4 @@
--- `sheet::read_tree_line` meets its contract, case by case.
+-- `read_tree_line` meets its contract, case by case.
 -- Assumes nothing.
 use Rattle.sheet_lines.proofs.LineLaws.{line-read}
 use native.Mathlib.Numerals.{add-one-le}

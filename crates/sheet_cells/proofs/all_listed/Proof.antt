@@ -1,4 +1,4 @@
--- `sheet_cells::all_listed` meets its contract. The invariant: the bytes from i on decide.
+-- `all_listed` meets its contract. The invariant: the bytes from i on decide.
 -- The measure is what is left of the text.
 -- Assumes nothing.
 use mathlib.Core.Path.{_≡_, refl, _∙_}

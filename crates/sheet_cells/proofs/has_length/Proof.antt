@@ -1,4 +1,4 @@
--- `sheet_cells::has_length` meets its contract.
+-- `has_length` meets its contract.
 -- Assumes nothing.
 use mathlib.Core.Path.{sym}
 use borrow.Author.Needs.{needs}

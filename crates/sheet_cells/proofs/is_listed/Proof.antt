@@ -1,4 +1,4 @@
--- `sheet_cells::is_listed` meets its contract: the table answers with states or with no symbol.
+-- `is_listed` meets its contract: the table answers with states or with no symbol.
 -- Assumes nothing.
 use mathlib.Core.Path.{sym, ap, _∙_}
 use borrow.Author.Needs.{needs}

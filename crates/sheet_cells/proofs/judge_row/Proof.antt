@@ -1,4 +1,4 @@
--- `sheet_cells::judge_row` meets its contract, in the order of the tests on one line.
+-- `judge_row` meets its contract, in the order of the tests on one line.
 -- Assumes nothing.
 use borrow.Author.Needs.{needs}
 use Rattle.sheet_lines.proofs.ByteLaws.{test-yes, test-no}

@@ -1,4 +1,4 @@
--- `sheet_cells::matrix_section` meets its contract: the count line, and then a row for each name.
+-- `matrix_section` meets its contract: the count line, and then a row for each name.
 -- Assumes nothing.
 use mathlib.Core.Path.{sym, _∙_}
 use borrow.Author.Needs.{needs}

@@ -1,4 +1,4 @@
--- `sheet_cells::read_row` meets its contract: no line, or the row of the line.
+-- `read_row` meets its contract: no line, or the row of the line.
 -- Assumes nothing.
 use mathlib.Core.Path.{sym, _∙_}
 use borrow.Author.Needs.{needs}

@@ -1,4 +1,4 @@
--- `sheet_cells::read_rows` meets its contract. The invariant: i rows are read. The measure is the number of rows left.
+-- `read_rows` meets its contract. The invariant: i rows are read. The measure is the number of rows left.
 -- Assumes nothing.
 use Prim.Native.Nat.{_-_}
 use borrow.Author.Needs.{needs}

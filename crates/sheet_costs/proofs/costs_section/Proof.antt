@@ -1,4 +1,4 @@
--- `sheet_costs::costs_section` meets its contract: the count line, and then the table.
+-- `costs_section` meets its contract: the count line, and then the table.
 -- Assumes nothing.
 use mathlib.Core.Path.{sym, _∙_}
 use borrow.Author.Needs.{needs}

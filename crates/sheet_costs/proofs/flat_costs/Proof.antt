@@ -1,4 +1,4 @@
--- `sheet_costs::flat_costs` meets its contract, entry by entry.
+-- `flat_costs` meets its contract, entry by entry.
 -- Assumes nothing.
 use borrow.Author.Needs.{needs}
 use Rattle.sheet_costs.proofs.FlatLaws.{sixteen, flat-list}

@@ -1,4 +1,4 @@
--- `sheet_costs::put_unit` meets its contract.
+-- `put_unit` meets its contract.
 -- Assumes nothing.
 use borrow.Author.Needs.{needs}
 use Rattle.sheet_costs.proofs.CostSteps.{unit-written}

@@ -1,4 +1,4 @@
--- `sheet_costs::read_cost_count` meets its contract, by the number on the count line.
+-- `read_cost_count` meets its contract, by the number on the count line.
 -- Assumes nothing.
 use mathlib.Core.Path.{sym, _∙_}
 use borrow.Author.Needs.{needs}

@@ -1,4 +1,4 @@
--- `sheet_costs::read_cost_row` meets its contract, number by number, and then by the one on the diagonal.
+-- `read_cost_row` meets its contract, number by number, and then by the one on the diagonal.
 -- Assumes nothing.
 use mathlib.Core.Path.{sym, _∙_}
 use borrow.Author.Needs.{needs}

@@ -1,4 +1,4 @@
--- `sheet_costs::read_cost_rows` meets its contract. The invariant: x rows are read, and stand in the table.
+-- `read_cost_rows` meets its contract. The invariant: x rows are read, and stand in the table.
 -- The measure is the number of rows left.
 -- Assumes nothing.
 use mathlib.Core.Path.{sym, ap, _∙_}

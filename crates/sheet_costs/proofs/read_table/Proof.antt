@@ -1,4 +1,4 @@
--- `sheet_costs::read_table` meets its contract, by the count.
+-- `read_table` meets its contract, by the count.
 -- Assumes nothing.
 use borrow.Author.Needs.{needs}
 use Rattle.sheet_costs.proofs.CostSteps.{table-none, table-four}

@@ -1,4 +1,4 @@
--- `sheet_lines::byte_within` meets its contract, range by range.
+-- `byte_within` meets its contract, range by range.
 -- Assumes nothing.
 use Rattle.sheet_lines.proofs.ByteLaws.{within-low, within-high, within-yes}
 use Rattle.sheet_lines.proofs.byte_within.Statement.{statement}

@@ -1,4 +1,4 @@
--- `sheet_lines::field_at` meets its contract, by the number and the byte after it.
+-- `field_at` meets its contract, by the number and the byte after it.
 -- Assumes nothing.
 use mathlib.Core.Path.{sym, _∙_}
 use borrow.Author.Needs.{needs}

@@ -1,4 +1,4 @@
--- `sheet_lines::line_end` meets its contract.
+-- `line_end` meets its contract.
 -- The invariant: the line from i on ends where the line from the start on ends.
 -- The measure is what is left of the sheet.
 -- Assumes nothing.

@@ -1,4 +1,4 @@
--- `sheet_lines::more_digits` meets its contract.
+-- `more_digits` meets its contract.
 -- The invariant: the value is at most 655,359, and it and the digits from i on make the number.
 -- The measure is what is left of the sheet.
 -- Assumes nothing.

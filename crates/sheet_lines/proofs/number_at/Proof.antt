@@ -1,4 +1,4 @@
--- `sheet_lines::number_at` meets its contract, by the first byte: none, a zero, no digit, another digit.
+-- `number_at` meets its contract, by the first byte: none, a zero, no digit, another digit.
 -- Assumes nothing.
 use mathlib.Core.Path.{_∙_}
 use native.Mathlib.Omega.{arith}

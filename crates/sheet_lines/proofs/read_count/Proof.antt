@@ -1,4 +1,4 @@
--- `sheet_lines::read_count` meets its contract, part by part.
+-- `read_count` meets its contract, part by part.
 -- Assumes nothing.
 use mathlib.Core.Path.{sym, _∙_}
 use borrow.Author.Needs.{needs}

@@ -1,4 +1,4 @@
--- `sheet_lines::with_count` meets its contract, case by case.
+-- `with_count` meets its contract, case by case.
 -- Assumes nothing.
 use borrow.Author.Needs.{needs}
 use Rattle.sheet_lines.specs.Counting.{withCount}

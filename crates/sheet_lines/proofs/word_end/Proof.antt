@@ -1,4 +1,4 @@
--- `sheet_lines::word_end` meets its contract.
+-- `word_end` meets its contract.
 -- The invariant: the rest of the word from i on ends where the whole word does.
 -- The measure is what is left of the word.
 -- Assumes nothing.

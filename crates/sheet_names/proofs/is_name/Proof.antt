@@ -1,4 +1,4 @@
--- `sheet_names::is_name` meets its contract, by the length of the text and then its bytes.
+-- `is_name` meets its contract, by the length of the text and then its bytes.
 -- Assumes nothing.
 use mathlib.Core.Path.{_∙_}
 use borrow.Author.Needs.{needs}

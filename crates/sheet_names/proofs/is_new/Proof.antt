@@ -1,4 +1,4 @@
--- `sheet_names::is_new` meets its contract. The invariant: the names from i on decide.
+-- `is_new` meets its contract. The invariant: the names from i on decide.
 -- The measure is the number of names left.
 -- Assumes nothing.
 use mathlib.Core.Path.{_≡_, refl, sym, _∙_}

@@ -1,4 +1,4 @@
--- `sheet_names::name_byte` meets its contract, test by test.
+-- `name_byte` meets its contract, test by test.
 -- Assumes nothing.
 use mathlib.Core.Path.{sym, _∙_}
 use borrow.Author.Needs.{needs}

@@ -1,4 +1,4 @@
--- `sheet_names::names_section` meets its contract: the count line, and then as many names.
+-- `names_section` meets its contract: the count line, and then as many names.
 -- Assumes nothing.
 use mathlib.Core.Path.{sym, _∙_}
 use native.Mathlib.Omega.{arith}

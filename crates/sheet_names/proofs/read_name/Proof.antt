@@ -1,4 +1,4 @@
--- `sheet_names::read_name` meets its contract, in the order of the tests on one line.
+-- `read_name` meets its contract, in the order of the tests on one line.
 -- Assumes nothing.
 use mathlib.Core.Path.{sym, _∙_}
 use native.Mathlib.Omega.{arith}

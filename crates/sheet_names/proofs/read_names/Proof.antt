@@ -1,4 +1,4 @@
--- `sheet_names::read_names` meets its contract. The invariant: i names are read, and their places stand in the list.
+-- `read_names` meets its contract. The invariant: i names are read, and their places stand in the list.
 -- The measure is the number of names left.
 -- Assumes nothing.
 use Prim.Native.Nat.{_-_}

@@ -1,4 +1,4 @@
--- `sheet_names::same_text` meets its contract. The invariant: the lines from i and j on decide.
+-- `same_text` meets its contract. The invariant: the lines from i and j on decide.
 -- The measure is what is left of the sheet after i.
 -- Assumes nothing.
 use mathlib.Core.Path.{_≡_, refl, _∙_}

@@ -1,4 +1,4 @@
--- `sheet_sections::read_from_columns` meets its contract: the cells, and then the rest.
+-- `read_from_columns` meets its contract: the cells, and then the rest.
 -- Assumes nothing.
 use mathlib.Core.Path.{sym, _∙_}
 use borrow.Author.Needs.{needs}

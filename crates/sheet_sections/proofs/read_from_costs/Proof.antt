@@ -1,4 +1,4 @@
--- `sheet_sections::read_from_costs` meets its contract: the costs, and then the count of trees.
+-- `read_from_costs` meets its contract: the costs, and then the count of trees.
 -- Assumes nothing.
 use mathlib.Core.Path.{sym, _∙_}
 use native.Mathlib.Omega.{arith}

@@ -1,4 +1,4 @@
--- `sheet_sections::read_sections` meets its contract: the names, and then the rest.
+-- `read_sections` meets its contract: the names, and then the rest.
 -- Assumes nothing.
 use borrow.Author.Needs.{needs}
 use Rattle.sheet_names.proofs.NamesLaws.{names-few}

@@ -1,4 +1,4 @@
--- `sheet_symbols::symbol_of` meets its contract: the table has the code list's set at each byte.
+-- `symbol_of` meets its contract: the table has the code list's set at each byte.
 -- Assumes nothing.
 use mathlib.Core.Path.{_∙_}
 use borrow.Author.Needs.{needs}

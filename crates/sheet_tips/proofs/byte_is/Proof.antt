@@ -1,4 +1,4 @@
--- `sheet_tips::byte_is` meets its contract.
+-- `byte_is` meets its contract.
 -- Assumes nothing.
 use lib.ListN.{getD, List·getD-eq-default}
 use borrow.Author.Tests.{eq-eqb, ne-eqb}

@@ -1,4 +1,4 @@
--- `sheet_tips::find_row` meets its contract. The invariant: the names from r on decide.
+-- `find_row` meets its contract. The invariant: the names from r on decide.
 -- The measure is the number of names left.
 -- Assumes nothing.
 use Rattle.sheet_tips.proofs.TokenLaws.{searchFrom, search-begin, search-found, search-more, search-none}

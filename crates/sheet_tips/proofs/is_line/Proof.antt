@@ -1,4 +1,4 @@
--- `sheet_tips::is_line` meets its contract.
+-- `is_line` meets its contract.
 -- Assumes nothing.
 use Rattle.sheet_tips.proofs.TokenLaws.{line-not, line-end}
 use mathlib.Core.Path.{sym, _∙_}

@@ -1,4 +1,4 @@
--- `sheet_tips::put_node` meets its contract: both entries are written.
+-- `put_node` meets its contract: both entries are written.
 -- Assumes nothing.
 use mathlib.Core.Path.{refl}
 use borrow.Author.Needs.{needs}

@@ -1,4 +1,4 @@
--- `sheet_tips::read_tip` meets its contract, case by case.
+-- `read_tip` meets its contract, case by case.
 -- Assumes nothing.
 use Rattle.sheet_tips.proofs.TipSteps.{tip-room, name-empty, name-unknown, name-again, name-got}
 use Rattle.sheet_tips.proofs.TokenLaws.{row-below, token-from, token-within}

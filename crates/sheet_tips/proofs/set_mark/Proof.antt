@@ -1,4 +1,4 @@
--- `sheet_tips::set_mark` meets its contract.
+-- `set_mark` meets its contract.
 -- Assumes nothing.
 use Rattle.sheet_tips.specs.Marks.{marked}
 use mathlib.Core.Path.{refl}

@@ -1,4 +1,4 @@
--- `sheet_tips::test_mark` meets its contract.
+-- `test_mark` meets its contract.
 -- Assumes nothing.
 use Rattle.sheet_tips.specs.Marks.{isMarked}
 use borrow.Author.Tests.{eq-eqb, ne-eqb}

@@ -1,4 +1,4 @@
--- `sheet_tips::token_end` meets its contract. The invariant: the name ends where the bytes from i on end it.
+-- `token_end` meets its contract. The invariant: the name ends where the bytes from i on end it.
 -- The measure is what is left of the sheet.
 -- Assumes nothing.
 use Rattle.sheet_lines.proofs.ByteLaws.{test-yes, test-no}

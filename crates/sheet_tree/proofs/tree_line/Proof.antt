@@ -1,10 +1,10 @@
--- `sheet_tree::tree_line` meets its contract, case by case.
+-- `tree_line` meets its contract, case by case.
 -- Assumes nothing.
 use Rattle.sheet_tips.specs.Marks.{unmarked}
 use Rattle.sheet_tree.proofs.LineSteps.{
   start-ready,
-  line-none,
-  line-stop,
+  line-tree-none,
+  line-tree-stop,
   line-after,
   line-missing,
   line-got,
@@ -34,7 +34,7 @@ enum-told c = search needs
 returns : tie.Need-returns
 unfolding unmarked
 returns c = record {
-  gives = line-none _ _ _ _ _ (gives-none (c .before .before .read-tree .ensures) (c .enum-told .given .1));
+  gives = line-tree-none _ _ _ _ _ (gives-none (c .before .before .read-tree .ensures) (c .enum-told .given .1));
 }
 
 byte-is-requires : tie.Need-byte-is-requires
@@ -46,7 +46,7 @@ returns-2 c =
     let c1 = c .before .before .before in
     let c2 = c1 .before .before in
     record {
-      gives = line-stop _ _ _ _ _ _ _ _ _ _ _ _ (gives-tree _ _ (c2 .read-tree .ensures) (c1 .stop .given .1))
+      gives = line-tree-stop _ _ _ _ _ _ _ _ _ _ _ _ (gives-tree _ _ (c2 .read-tree .ensures) (c1 .stop .given .1))
           (test-no (c .before .byte-is .ensures)
           (c .if1 .taken));
     }

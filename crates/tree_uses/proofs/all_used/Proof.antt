@@ -5,13 +5,13 @@ use Prim.Native.Nat.{_-_, _≤_}
 use native.Mathlib.Omega.{arith}
 use borrow.Author.Needs.{needs}
 use lib.ListN.{getD}
-use Rattle.parsimony.proofs.Extremes.{Lowest, extreme-none, lowest-more}
+use Rattle.parsimony.proofs.Extremes.{LowestSoFar, extreme-none, lowest-more}
 use Rattle.parsimony.proofs.TellsLaws.{all-yes}
 use Rattle.tree_uses.proofs.all_used.Statement.{statement}
 use Rattle.tree_uses.proofs.all_used.Tie as tie
 
 abbrev Inv-loop : tie.InvT-loop
-Inv-loop end marks fewest₀ u₀ fewest u = (u ≤ end) × Lowest (λ w. getD marks w 0) 1 fewest u
+Inv-loop end marks fewest₀ u₀ fewest u = (u ≤ end) × LowestSoFar (λ w. getD marks w 0) 1 fewest u
 
 abbrev μ-loop : tie.MeasureT-loop
 μ-loop end marks fewest₀ u₀ fewest u = end - u

@@ -9,7 +9,7 @@ use Rattle.promises.proofs.TableLaws.{table-node}
 use Rattle.promises.specs.Input.{Input, input, nodes}
 use Rattle.root_row.proofs.RootSteps.{root-inside}
 use Rattle.row_step.specs.Lane.{entryAt}
-use Rattle.column_work.proofs.ResultLaws.{row-right}
+use Rattle.column_work.proofs.ResultLaws.{row-copied}
 use native.Mathlib.Omega.{arith}
 use borrow.Author.Needs.{needs}
 use Rattle.column_work.proofs.handing_up.row_column.Statement.{statement}
@@ -63,7 +63,7 @@ returns c =
     let parts = hand-up-parts (table start) _ _ _ (start .pre .0) in
     let rows = fill-rows .last .1 .1 .1 .1 .1 .1 .1 .1 .1 .0 in
     record {
-      each = row-right (table start) (parts .table) _ (parts .which) rows (fill-rows .ensures .right)
+      output = row-copied (table start) (parts .table) _ (parts .which) rows (fill-rows .ensures .right)
           (subst (λ at. Wrote 0 (table start .s) (entryAt rows at) (start .args .row .now)
           (c .before .before .copy-row .last .1 .1 .0))
           (root-place .ensures) (c .before .before .copy-row .ensures));

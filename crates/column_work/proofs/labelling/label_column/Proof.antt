@@ -6,7 +6,7 @@ use lib.ListN.{length}
 use Rattle.promises.proofs.RuleLaws.{label-parts}
 use Rattle.promises.specs.Input.{Input, input, nodes}
 use Rattle.rows_up.proofs.RowSteps.{table-calm}
-use Rattle.column_work.proofs.ResultLaws.{start-state, labels-right}
+use Rattle.column_work.proofs.ResultLaws.{start-state, states-walked}
 use native.Mathlib.Omega.{arith}
 use borrow.Author.Needs.{needs}
 use Rattle.column_work.proofs.labelling.label_column.Statement.{statement}
@@ -62,7 +62,7 @@ returns c =
     let parts = label-parts (table start) _ _ _ _ (start .pre .0) in
     let rows = fill-rows .last .1 .1 .1 .1 .1 .1 .1 .1 .1 .0 in
     record {
-      labels = labels-right (table start) (parts .table) _ (parts .which .inside) rows (fill-rows .ensures .right)
+      output = states-walked (table start) (parts .table) _ (parts .which .inside) rows (fill-rows .ensures .right)
           (start .args .start)
           (parts .which .may) (c .before .before .states-down .ensures);
       worked = fill-rows .ensures;

@@ -6,7 +6,7 @@ use lib.ListN.{length}
 use Rattle.promises.proofs.RuleLaws.{sets-parts}
 use Rattle.promises.specs.Input.{Input, input, nodes}
 use Rattle.rows_up.proofs.RowSteps.{table-calm}
-use Rattle.column_work.proofs.ResultLaws.{start-narrow, sets-right}
+use Rattle.column_work.proofs.ResultLaws.{start-narrow, sets-walked}
 use native.Mathlib.Omega.{arith}
 use borrow.Author.Needs.{needs}
 use Rattle.column_work.proofs.set_call.set_column.Statement.{statement}
@@ -62,7 +62,7 @@ returns c =
     let parts = sets-parts (table start) _ _ _ _ (start .pre .0) in
     let rows = fill-rows .last .1 .1 .1 .1 .1 .1 .1 .1 .1 .0 in
     record {
-      each = sets-right (table start) (parts .table) _ (parts .which .inside) rows (fill-rows .ensures .right)
+      output = sets-walked (table start) (parts .table) _ (parts .which .inside) rows (fill-rows .ensures .right)
           (start .args .start)
           (parts .which .may) (c .before .before .sets-down .ensures);
       worked = fill-rows .ensures;

@@ -11,7 +11,7 @@ use Rattle.promises.specs.Input.{Input, input, nodes}
 use Rattle.promises.specs.declared.Start.the-variants.{Free}
 use Rattle.rows_up.proofs.RowSteps.{table-calm}
 use Rattle.column_work.proofs.LinkLaws.{least-is}
-use Rattle.column_work.proofs.ResultLaws.{labels-right, sets-right}
+use Rattle.column_work.proofs.ResultLaws.{states-walked, sets-walked}
 use native.Mathlib.Omega.{arith}
 use borrow.Author.Needs.{needs}
 use Rattle.column_work.proofs.whole_work.fill_column.Statement.{statement}
@@ -95,8 +95,8 @@ returns c =
     record {
       score = score-right (table start) (parts .table) _ (parts .which) _
           (c .root-least .ensures ∙ least-is (table start) (parts .table) _ rows held);
-      labels = labels-right (table start) (parts .table) _ (parts .which) rows held Free tt (states-down .ensures);
-      each = sets-right (table start) (parts .table) _ (parts .which) rows held Free tt (sets-down .ensures);
+      labels = states-walked (table start) (parts .table) _ (parts .which) rows held Free tt (states-down .ensures);
+      each = sets-walked (table start) (parts .table) _ (parts .which) rows held Free tt (sets-down .ensures);
       worked = fill-rows .ensures;
     }
 

@@ -5,12 +5,12 @@ use native.Mathlib.Omega.{arith}
 use borrow.Author.Needs.{needs}
 use lib.ListN.{getD}
 use Rattle.parsimony.specs.Limits.{cellBits}
-use Rattle.report_marks.proofs.OneStateLaws.{Counted, counted-none, counted-more, counted-most, counted-all}
+use Rattle.report_marks.proofs.OneStateLaws.{CountedTo, counted-none, counted-more, counted-most, counted-all}
 use Rattle.report_marks.proofs.ones.one_states.Statement.{statement}
 use Rattle.report_marks.proofs.ones.one_states.Tie as tie
 
 abbrev Inv-loop : tie.InvT-loop
-Inv-loop sets n count₀ v₀ count v = Counted cellBits (λ u. getD sets u 0) n count v
+Inv-loop sets n count₀ v₀ count v = CountedTo cellBits (λ u. getD sets u 0) n count v
 
 abbrev μ-loop : tie.MeasureT-loop
 μ-loop sets n count₀ v₀ count v = n - v

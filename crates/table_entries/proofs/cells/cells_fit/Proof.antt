@@ -1,4 +1,4 @@
--- `tables::rules::cells_fit` meets its contract. Each refusal breaks a rule; past them the range of the cells decides.
+-- `cells_fit` meets its contract. Each refusal breaks a rule; past them the range of the cells decides.
 -- Assumes nothing.
 use native.Mathlib.Nat.{mul-le-mul}
 use native.Mathlib.Omega.{arith}

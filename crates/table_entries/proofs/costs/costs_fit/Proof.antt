@@ -1,4 +1,4 @@
--- `tables::rules::costs_fit` meets its contract. Each refusal breaks a rule; past them the diagonal decides.
+-- `costs_fit` meets its contract. Each refusal breaks a rule; past them the diagonal decides.
 -- Assumes nothing.
 use native.Mathlib.Nat.{mul-le-mul}
 use native.Mathlib.Omega.{arith}

@@ -1,4 +1,4 @@
--- `tables::rules::diagonal_free` meets its contract. The loop's invariant: every diagonal entry before state is 0.
+-- `diagonal_free` meets its contract. The loop's invariant: every diagonal entry before state is 0.
 -- The measure is the number of states left. Assumes nothing.
 use mathlib.Core.Path.{_≡_}
 use Prim.Native.Nat.{ℕ, _+_, _*_, _-_, _<_}

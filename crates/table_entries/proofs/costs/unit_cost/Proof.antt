@@ -1,4 +1,4 @@
--- `tables::rules::unit_cost` meets its contract. The test of the two states picks the cost. Assumes nothing.
+-- `unit_cost` meets its contract. The test of the two states picks the cost. Assumes nothing.
 use mathlib.Core.Path.{sym}
 use borrow.Author.Tests.{eq-eqb, ne-eqb}
 use Rattle.parsimony.proofs.Order.{pick-true, pick-false}

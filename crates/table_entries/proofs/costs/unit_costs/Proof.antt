@@ -1,4 +1,4 @@
--- `tables::rules::unit_costs` meets its contract. The loop's invariant: every row before x is of unit costs. The
+-- `unit_costs` meets its contract. The loop's invariant: every row before x is of unit costs. The
 -- measure is the number of rows left. Assumes nothing.
 use mathlib.Core.Path.{_≡_}
 use Prim.Native.Nat.{ℕ, _-_, _<_}

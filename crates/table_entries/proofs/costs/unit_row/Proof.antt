@@ -1,4 +1,4 @@
--- `tables::rules::unit_row` meets its contract. The loop's invariant: the row is of unit costs before y. The measure
+-- `unit_row` meets its contract. The loop's invariant: the row is of unit costs before y. The measure
 -- is what is left of the row. Assumes nothing.
 use mathlib.Core.Path.{_≡_, sym, _∙_}
 use Prim.Native.Nat.{ℕ, _+_, _*_, _-_, _<_}

@@ -1,11 +1,11 @@
--- `rules::all_within` meets its contract. The loop's invariant: lowest and highest are those of the numbers before i.
+-- `all_within` meets its contract. The loop's invariant: lowest and highest are those of the numbers before i.
 -- The measure is what is left of the list. Assumes nothing.
 use mathlib.Core.Logic.{inl, inr, ⊎-elim}
 use Prim.Native.Nat.{_-_, _≤_}
 use native.Mathlib.Omega.{arith}
 use borrow.Author.Needs.{needs}
 use lib.ListN.{length, getD}
-use Rattle.parsimony.proofs.Extremes.{Lowest, Highest, extreme-none, lowest-more, highest-more}
+use Rattle.parsimony.proofs.Extremes.{LowestSoFar, HighestSoFar, extreme-none, lowest-more, highest-more}
 use Rattle.parsimony.proofs.TellsLaws.{all-yes}
 use Rattle.table_entries.proofs.ranges.all_within.Statement.{statement}
 use Rattle.table_entries.proofs.ranges.all_within.Tie as tie
@@ -13,8 +13,8 @@ use Rattle.table_entries.proofs.ranges.all_within.Tie as tie
 abbrev Inv-loop : tie.InvT-loop
 Inv-loop list least most lowest₀ highest₀ i₀ lowest highest i =
     (i ≤ length list)
-    × Lowest (λ k. getD list k 0) least lowest i
-    × Highest (λ k. getD list k 0) most highest i
+    × LowestSoFar (λ k. getD list k 0) least lowest i
+    × HighestSoFar (λ k. getD list k 0) most highest i
 
 abbrev μ-loop : tie.MeasureT-loop
 μ-loop list least most lowest₀ highest₀ i₀ lowest highest i = length list - i

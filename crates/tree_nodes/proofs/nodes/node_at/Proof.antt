@@ -1,9 +1,10 @@
--- `nodes::node_at` meets its contract: the tests are those of the definition, case by case.
+-- `node_at` meets its contract: the tests are those of the definition, case by case.
 -- Assumes nothing.
-use mathlib.Core.Path.{ap, _∙_}
+use mathlib.Core.Path.{refl, ap, sym, _∙_}
+use native.Mathlib.Omega.{arith}
 use borrow.Author.Needs.{needs}
 use Rattle.parsimony.specs.Table.{symbol, handed, leaf}
-use Rattle.tree_nodes.proofs.NodeLaws.{node-symbol, node-handed, node-inner}
+use Rattle.parsimony.proofs.NodeLaws.{node-symbol, node-handed, node-inner}
 use Rattle.tree_nodes.proofs.nodes.node_at.Statement.{statement}
 use Rattle.tree_nodes.proofs.nodes.node_at.Tie as tie
 
@@ -32,7 +33,8 @@ wide-requires c κs = search needs
 returns : tie.Need-returns
 returns c =
     ap (leaf symbol) (c .wide .ensures)
-    ∙ node-symbol _ _ _ (c .before .before .before .before .if1 .taken) (c .before .before .if2 .taken)
+    ∙ sym
+    (node-symbol _ _ _ _ (c .before .before .if2 .taken) (c .before .before .before .before .if1 .taken) refl)
 
 mul-wide-2 : tie.Need-mul-wide-2
 mul-wide-2 c = search needs
@@ -50,7 +52,8 @@ wide-requires-2 c κs = search needs
 returns-2 : tie.Need-returns-2
 returns-2 c =
     ap (leaf handed) (c .wide2 .ensures)
-    ∙ node-handed _ _ _ (c .before .before .before .before .if1 .taken) (c .before .before .if2 .left)
+    ∙ sym
+    (node-handed _ _ _ _ (c .before .before .before .before .if1 .taken) (omega (arith, c .before .before .if2 .left)))
 
 mul-wide-3 : tie.Need-mul-wide-3
 mul-wide-3 c = search needs
@@ -74,7 +77,7 @@ wide-requires-4 c κs = search needs
 returns-3 : tie.Need-returns-3
 returns-3 c =
     rw (c .before .before .wide3 .ensures, c .wide4 .ensures)
-    (node-inner _ _ _ (c .before .before .before .before .if1 .left))
+    (sym (node-inner _ _ _ _ _ (c .before .before .before .before .if1 .left) refl refl))
 
 pub node-at-spec : {M : Type 1} → statement M
 node-at-spec =

@@ -1,4 +1,4 @@
--- `nodes::tip_at` meets its contract: the two tests are those of the definition, and their product says that both hold.
+-- `tip_at` meets its contract: the two tests are those of the definition, and their product says that both hold.
 -- Assumes nothing.
 use Prim.Native.Nat.{_-_}
 use native.Mathlib.Omega.{arith}

@@ -1,4 +1,4 @@
--- `nodes::tips_of` meets its contract. The invariant: the two counts are those of the tips among the nodes below v. The
+-- `tips_of` meets its contract. The invariant: the two counts are those of the tips among the nodes below v. The
 -- measure is what is left of the nodes.
 -- Assumes nothing.
 use mathlib.Core.Path.{_≡_, sym, ap, _∙_}

@@ -1,4 +1,4 @@
--- `nodes::unit` meets its contract: it is the definition, case by case.
+-- `unit` meets its contract: it is the definition, case by case.
 -- Assumes nothing.
 use mathlib.Core.Path.{sym}
 use Rattle.parsimony.proofs.Order.{pick-true, pick-false}

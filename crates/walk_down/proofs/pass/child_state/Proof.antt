@@ -2,6 +2,7 @@
 use mathlib.Core.Path.{_∙_}
 use Rattle.walk_down.proofs.PassSteps.{chosen-low}
 use Rattle.walk_down.specs.Pass.{chosen}
+use Rattle.row_step.proofs.LaneLaws.{rules-cheap}
 use native.Mathlib.Omega.{arith}
 use borrow.Author.Needs.{needs}
 use Rattle.walk_down.proofs.pass.child_state.Statement.{statement}
@@ -12,7 +13,7 @@ mul-choose c = search needs
 
 choose-requires : tie.Need-choose-requires
 choose-requires c κs = (
-  (c .before .before .pre .0 .count, c .before .before .pre .0 .cheap),
+  rules-cheap _ _ (c .before .before .pre .0),
   (c .before .before .pre .1 .0, (c .before .before .pre .1 .1, c .before .before .pre .0 .most)),
 )
 

@@ -11,6 +11,7 @@ use Rattle.parsimony.proofs.LegalLaws.{legal-below}
 use Rattle.walk_down.proofs.pass.pass_set.Statement.{statement}
 use Rattle.walk_down.specs.Pass.{settled}
 use Rattle.row_step.specs.Lane.{Calm}
+use Rattle.row_step.proofs.LaneLaws.{rules-cheap}
 use Rattle.walk_down.proofs.pass.pass_set.Tie as tie
 
 -- in the inner arm: the arguments and what is required of them,
@@ -57,7 +58,7 @@ child-set-requires c κs =
     let start = entry c in
     let rules = start .pre .1 .0 in
     let below = kids c in
-    ((rules .count, rules .cheap), (start .pre .1 .1 .0 _ (omega arith), omega (arith, rules .fewest, rules .most)))
+    (rules-cheap _ _ rules, (start .pre .1 .1 .0 _ (omega arith), omega (arith, rules .fewest, rules .most)))
 
 mul-sets : tie.Need-mul-sets
 mul-sets c = omega (arith, kids (c .before), entry (c .before) .pre .0 .size .most)
@@ -73,7 +74,7 @@ child-set-requires-2 c κs =
     let start = entry (c .before) in
     let rules = start .pre .1 .0 in
     let below = kids (c .before) in
-    ((rules .count, rules .cheap), (start .pre .1 .1 .0 _ (omega arith), omega (arith, rules .fewest, rules .most)))
+    (rules-cheap _ _ rules, (start .pre .1 .1 .0 _ (omega arith), omega (arith, rules .fewest, rules .most)))
 
 mul-sets-2 : tie.Need-mul-sets-2
 mul-sets-2 c = omega (arith, kids (c .before .before), entry (c .before .before) .pre .0 .size .most)

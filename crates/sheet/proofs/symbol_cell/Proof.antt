@@ -1,10 +1,10 @@
--- `sheet::cell_of` meets its contract.
+-- `symbol_cell` meets its contract.
 -- Assumes nothing.
 use Rattle.sheet.proofs.CellSteps.{set-listed, set-unlisted}
 use mathlib.Core.Path.{sym, _∙_}
 use borrow.Author.Needs.{needs}
-use Rattle.sheet.proofs.cell_of.Statement.{statement}
-use Rattle.sheet.proofs.cell_of.Tie as tie
+use Rattle.sheet.proofs.symbol_cell.Statement.{statement}
+use Rattle.sheet.proofs.symbol_cell.Tie as tie
 
 symbol-of-requires : tie.Need-symbol-of-requires
 symbol-of-requires c κs = search needs
@@ -21,5 +21,5 @@ returns c = sym (set-listed _ _ (sym (c .before .before .before .symbol-of .ensu
 returns-2 : tie.Need-returns-2
 returns-2 c = sym (set-unlisted _ (sym (c .before .before .symbol-of .ensures) ∙ c .enum-told .given .1))
 
-pub cell-of-spec : {M : Type 1} → statement M
-cell-of-spec = tie.close (tie.spec symbol-of-requires enum-known-set enum-told returns returns-2)
+pub symbol-cell-spec : {M : Type 1} → statement M
+symbol-cell-spec = tie.close (tie.spec symbol-of-requires enum-known-set enum-told returns returns-2)
