@@ -5,7 +5,6 @@ use mathlib.Core.Path.{_≡_, ap, sym, _∙_, subst}
 use Prim.Native.Nat.{ℕ, _*_, _-_, _^_, _≤_, _<_}
 use native.Mathlib.Nat.{zero-add}
 use native.Mathlib.Omega.{arith}
-use lib.Pow.{pow-mono}
 use Rattle.parsimony.specs.Allowed.{mostHanded}
 use Rattle.parsimony.specs.Column.{Column, columnOf}
 use Rattle.parsimony.specs.Label.{choose, labelFrom}
@@ -20,6 +19,7 @@ use Rattle.parsimony.specs.Tree.{Descent}
 use Rattle.parsimony.specs.Written.{Written, entries, below, Each, Wrote}
 use Rattle.parsimony.proofs.LabelLaws.{label-meets}
 use Rattle.parsimony.proofs.SetLaws.{sets-meet}
+use Rattle.parsimony.proofs.StateSetLaws.{states-fit}
 use Rattle.parsimony.proofs.TieLaws.{in-use}
 use Rattle.parsimony.proofs.TreeLaws.{descent-unique}
 use Rattle.promises.specs.CallRules.{Allowed}
@@ -54,7 +54,7 @@ module _ (I : Input) (table : Allowed I) (j : ℕ) (inside : j < I .c) where
   pub start-narrow : (start : Start) → SetStart I j start → startOr start 0 < 2 ^ cellBits
   start-narrow Free may = omega arith
   start-narrow (Given w) may =
-      let wide : 2 ^ I .s ≤ 2 ^ cellBits = pow-mono (table .costs .most) in
+      let wide = states-fit (I .s) (table .costs .most) in
       omega (arith, may .within)
 
   module _ (rows : List ℕ) (held : HoldsRows (row col) (nodes I) (I .s) (entries rows)) where

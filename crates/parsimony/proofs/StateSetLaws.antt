@@ -9,6 +9,7 @@ use native.Mathlib.Omega.{arith}
 use borrow.Author.Tests.{eqb-true, eq-eqb, ne-eqb}
 use lib.Bits.{and-shr, and-step, or-shr, or-step}
 use lib.Pow.{pow-mono}
+use Rattle.parsimony.specs.Limits.{mostStates, cellBits}
 use Rattle.parsimony.specs.StateSet.{bit, Member, holds, one, union, common}
 use Rattle.parsimony.proofs.Order.{by-lt, by-eq}
 
@@ -154,3 +155,7 @@ bits-same (suc s) v w h k same =
 -- two sets with the same states are the same
 pub set-same : (s v w : ℕ) → v < 2 ^ s → w < 2 ^ s → ((x : ℕ) → x < s → (Member v x ↔ Member w x)) → v ≡ w
 set-same s v w h k same = bits-same s v w h k (λ x i. bit-same v w x (same x i))
+
+-- a set of at most the most states fits the bits of a cell
+pub states-fit : (s : ℕ) → s ≤ mostStates → 2 ^ s ≤ 2 ^ cellBits
+states-fit s few = let within : s ≤ cellBits = omega arith in pow-mono within

@@ -45,14 +45,14 @@ use Rattle.promises.specs.declared.Start.the-variants.{Free}
 use Rattle.promises.specs.declared.Valued.the-variants as Value
 use Rattle.promises.proofs.Meaning.{score-right, entry-right, labelling-right, set-right}
 use Rattle.promises.proofs.RuleLaws.{rules-of, score-rules, count-rules}
-use Rattle.promises.proofs.WriteLaws.{list-made, rows-made, written-right}
+use Rattle.promises.proofs.WriteLaws.{list-made, row-room-made, written-right}
 
 -- the row room after scoring c columns: the rows of the last, or as it was if there is none
 last-made : (I : Input) (rows : List ℕ) → nodes I * I .s ≤ length rows → (c : ℕ)
     → (after : List ℕ) × (c ≡ 0 → after ≡ rows) × ((j : ℕ) → suc j ≡ c → Worked I j rows after)
 last-made I rows fits zero = (rows, λ e. refl, λ j e. absurd (omega arith))
 last-made I rows fits (suc k) =
-    let (after, room) = rows-made (row (column I k)) (nodes I) (I .s) rows fits in
+    let (after, room) = row-room-made (row (column I k)) (nodes I) (I .s) rows fits in
     (after, λ e. absurd (omega arith), λ j e. subst (λ i. Worked I i rows after) (sym (suc-inj e)) room)
 
 module _ (I : Input) (table : Allowed I) where
@@ -100,7 +100,7 @@ module _ (I : Input) (table : Allowed I) where
         )
 
     worked-made : (rows : List ℕ) → nodes I * I .s ≤ length rows → (rows' : List ℕ) × Worked I j rows rows'
-    worked-made rows room = rows-made (row (column I j)) (nodes I) (I .s) rows room
+    worked-made rows room = row-room-made (row (column I j)) (nodes I) (I .s) rows room
 
     -- a call on the column is done where its rules hold and its output is written
     column-done : (rules : ℕ → ℕ → List Rule) (Output : List ℕ → List ℕ → Type 0) (out rows out' : List ℕ)

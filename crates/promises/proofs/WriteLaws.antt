@@ -44,9 +44,9 @@ list-made n f before fits =
     )
 
 -- a row room with room for n rows of s can be written with any n rows
-pub rows-made : (R : ℕ → ℕ → ℕ) (n s : ℕ) (before : List ℕ) → n * s ≤ length before
+pub row-room-made : (R : ℕ → ℕ → ℕ) (n s : ℕ) (before : List ℕ) → n * s ≤ length before
     → (after : List ℕ) × Written (below (n * s)) (HoldsRows R n s) before after
-rows-made R n s before fits =
+row-room-made R n s before fits =
     let rows = joined n (λ v. listOf s (R v)) in
     let each : (v : ℕ) → v < n → length (listOf s (R v)) ≡ s = λ v h. list-long s (R v) in
     let own = joined-long n s (λ v. listOf s (R v)) each in (

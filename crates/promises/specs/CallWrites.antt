@@ -30,7 +30,7 @@ pub record ScoresWritten (I : Input) (scores rows scores' rows' : List ℕ) : Ty
   pub none : I .c ≡ 0 → rows' ≡ rows
   pub last : (j : ℕ) → suc j ≡ I .c → Worked I j rows rows'
 
--- what a call on column j has written: its output, as it should be, and the rows of the column
+-- what a call on column j has written: its output, as Output says, and the rows of the column
 pub record ColumnWritten (I : Input) (j : ℕ) (Output : List ℕ → List ℕ → Type 0) (out rows out' rows' : List ℕ)
     : Type 0 where
   pub output : Output out out'

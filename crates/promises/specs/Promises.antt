@@ -26,7 +26,8 @@ pub record Scored (I : Input) (scores rows : List ℕ) (a : Answer) (scores' row
   pub answer : Given (scoreRules I (length scores) (length rows)) I a
   pub lists : LeftBy a ((scores' ≡ scores) × (rows' ≡ rows)) (ScoresWritten I scores rows scores' rows')
 
--- a call on column j with these rules, which go by the lengths of its output and its row room, and with this output
+-- a call on column j that is lent an output and a row room: its answer is given under its rules, which go by the lengths
+-- of both; refused, both are as they were; done, the output is as Output says, and the row room has the column's rows
 pub record ColumnCalled (rules : ℕ → ℕ → List Rule) (I : Input) (j : ℕ) (Output : List ℕ → List ℕ → Type 0)
     (out rows : List ℕ) (a : Answer) (out' rows' : List ℕ) : Type 0 where
   pub answer : Given (rules (length out) (length rows)) I a

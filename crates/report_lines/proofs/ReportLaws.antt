@@ -2,10 +2,9 @@
 -- Assumes nothing.
 use mathlib.Core.List.{List}
 use mathlib.Core.Path.{_≡_, ap₂, _∙_, subst}
-use Prim.Native.Nat.{ℕ, _^_, _≤_, _<_}
+use Prim.Native.Nat.{ℕ, _≤_, _<_}
 use native.Mathlib.Omega.{arith}
 use lib.ListN.{length, getD}
-use lib.Pow.{pow-mono}
 use Rattle.parsimony.specs.Allowed.{mostHanded}
 use Rattle.parsimony.specs.Column.{Column, columnOf}
 use Rattle.parsimony.specs.Label.{label}
@@ -13,6 +12,7 @@ use Rattle.parsimony.specs.Limits.{cellBits}
 use Rattle.parsimony.specs.NodeSet.{sets}
 use Rattle.parsimony.specs.Row.{score}
 use Rattle.parsimony.proofs.Scoring.{score-open}
+use Rattle.parsimony.proofs.StateSetLaws.{states-fit}
 use Rattle.promises.specs.CallRules.{Allowed, FitsWork, workRules}
 use Rattle.promises.specs.CallWrites.{WorkWritten}
 use Rattle.promises.specs.Input.{Input, nodes, column}
@@ -75,7 +75,7 @@ module _ (I : Input) (table : Allowed I) (inside : 0 < I .c) where
     ones-are =
         ones-same (I .s) cellBits (λ v. getD sets' v 0) (sets P) (nodes I)
         (λ v h. let narrow = set-of I table 0 inside Free tt v h .within in
-        let wide : 2 ^ I .s ≤ 2 ^ cellBits = pow-mono (table .costs .most) in
+        let wide = states-fit (I .s) (table .costs .most) in
         (set-meant I table 0 inside Free v _ tt h (done .each .right v h), narrow, omega arith))
 
     -- and the labels are those of the definition

@@ -1,2 +1,3 @@
--- Laws of the operations on 16-bit numbers that state sets use.
+-- Laws of the operations that state sets use, on the numbers that hold them.
+-- Assumes nothing.
 pub mod Words

@@ -6,17 +6,19 @@ use mathlib.Core.Path.{_≡_}
 use Prim.Native.Nat.{ℕ, _+_, _*_, _^_, _≤_, _<_}
 use native.Mathlib.Omega.{arith}
 use lib.ListN.{length, getD}
-use lib.Pow.{pow-pos, pow-mono}
+use lib.Pow.{pow-pos}
 use Rattle.parsimony.specs.Allowed.{CostRules, CellRules}
+use Rattle.parsimony.specs.Limits.{mostStates, cellBits}
 use Rattle.parsimony.specs.Tells.{Tells}
+use Rattle.parsimony.proofs.StateSetLaws.{states-fit}
 use Rattle.parsimony.proofs.TellsLaws.{tells-same}
 
--- two to a power of at most 16
-pub pow-within : (s : ℕ) → s ≤ 16 → (1 ≤ 2 ^ s) × (2 ^ s ≤ 65536)
-pow-within s h = (pow-pos s, pow-mono h)
+-- of s states there is at least one set, and each fits a cell
+pub pow-within : (s : ℕ) → s ≤ mostStates → (1 ≤ 2 ^ s) × (2 ^ s ≤ 2 ^ cellBits)
+pow-within s h = (pow-pos s, states-fit s h)
 
 -- where the costs are s by s, each at most 999, the diagonal decides
-pub costs-tell : (s : ℕ) (costs : List ℕ) {b : Bool} → 2 ≤ s → s ≤ 16 → length costs ≡ s * s
+pub costs-tell : (s : ℕ) (costs : List ℕ) {b : Bool} → 2 ≤ s → s ≤ mostStates → length costs ≡ s * s
     → ((i : ℕ) → i < length costs → (0 ≤ getD costs i 0) × (getD costs i 0 ≤ 999))
     → Tells ((x : ℕ) → x < s → getD costs (x * s + x) 0 ≡ 0) b → Tells (CostRules s costs) b
 costs-tell s costs fewest most count within =

@@ -1,11 +1,10 @@
 -- `set_start` meets its contract, by the cases of the start.
 -- Assumes nothing.
 use mathlib.Core.Path.{subst}
-use Prim.Native.Nat.{ℕ, _^_, _<_, _≤_}
+use Prim.Native.Nat.{ℕ, _<_}
 use native.Mathlib.Nat.{pos-of-ne-zero}
-use lib.Pow.{pow-mono}
 use Rattle.call_starts.proofs.StartLaws.{set-free, set-empty, set-high, set-below}
-use Rattle.parsimony.specs.Limits.{cellBits}
+use Rattle.parsimony.proofs.StateSetLaws.{states-fit}
 use Rattle.parsimony.specs.StateSet.{Member}
 use Rattle.parsimony.specs.Tells.{Tells}
 use Rattle.promises.specs.Input.{Input, input}
@@ -52,7 +51,7 @@ cell-of-requires c κs =
     let start = c .before .before .before .before .before .before .before .before .before .before in
     let few = start .pre .0 .costs .most in
     let shift = shifted-power 64 (start .args .s) (omega arith) in
-    let wide : 2 ^ start .args .s ≤ 2 ^ cellBits = pow-mono few in omega (arith, c .if2 .left)
+    let wide = states-fit (start .args .s) few in omega (arith, c .if2 .left)
 
 members-open-requires : tie.Need-members-open-requires
 members-open-requires c κs =

@@ -1,8 +1,9 @@
 -- `root_set` meets its contract, by the cases of the start.
 -- Assumes nothing.
 use mathlib.Core.Path.{sym, ap, _∙_, subst}
-use Prim.Native.Nat.{_<_}
+use Prim.Native.Nat.{_^_, _<_}
 use borrow.Author.Needs.{needs}
+use Rattle.parsimony.specs.Limits.{cellBits}
 use Rattle.root_row.proofs.root_set.Statement.{statement}
 use Rattle.promises.specs.Starts.{startOr}
 use Rattle.choice_steps.specs.Ties.{leastSet}
@@ -20,7 +21,7 @@ enum-known-start c = search needs
 cell-of-requires : tie.Need-cell-of-requires
 cell-of-requires c κs =
     let start = c .before .before .before .before in
-    subst (λ t. startOr t 0 < 65536) (c .before .start .given .1) (start .pre .1)
+    subst (λ t. startOr t 0 < 2 ^ cellBits) (c .before .start .given .1) (start .pre .1)
 
 returns : tie.Need-returns
 returns c =

@@ -1,4 +1,4 @@
--- `last_set` meets its contract. 2 ^ s is 1 to 65,536, so neither the difference nor the cast wraps.
+-- `last_set` meets its contract. 2 ^ s is at least 1 and fits the bits of a cell, so neither the difference nor the cast wraps.
 -- Assumes nothing.
 use native.Mathlib.Omega.{arith}
 use borrow.Author.Needs.{needs}
