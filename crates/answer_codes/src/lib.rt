@@ -1,5 +1,7 @@
 // Answers as numbers: the one number that a call returns for its answer, and the start that a number stands for. The
 // low 8 bits are the number of the paper's list; above them stands what it carries.
+#![tactic(auto)]
+
 ghost use Rattle.std.specs.Prelude.{◌≡◌, ◌<◌, ◌≤◌};
 ghost use Rattle.promises.specs.Answers.{carried_by};
 ghost use Rattle.answer_codes.specs.Codes.{answer_code, fault_code, start_of};

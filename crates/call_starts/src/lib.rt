@@ -1,4 +1,6 @@
 // The starts: none, or a state or a set of states that the root may take.
+#![tactic(auto)]
+
 ghost use Rattle.std.specs.Prelude.{◌≡◌, ℕ, ◌^◌, ◌<◌};
 ghost use Rattle.parsimony.specs.StateSet.{Member};
 ghost use Rattle.parsimony.specs.Table.{Kind};

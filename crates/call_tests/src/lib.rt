@@ -1,4 +1,6 @@
 // The tests 1 to 8 of each call, in their order: the first that holds is given.
+#![tactic(auto)]
+
 ghost use Rattle.std.specs.Prelude.{[], ◌*◌, ◌≤◌};
 ghost use Rattle.parsimony.specs.Limits.{most_states};
 ghost use Rattle.parsimony.specs.Tells.{Tells};

@@ -1,5 +1,7 @@
 // The five table calls for C and Rust: numbers as u64, a slice as pointer and count. The result's low 8 bits are the
 // number; above them stand the node for SHAPE and the change count of set counting, else 0.
+#![tactic(auto)]
+
 ghost use Rattle.std.specs.Prelude.{◌≡◌, [], ◌<◌};
 ghost use Rattle.promises.specs.Answers.{carried_by, answer_of, value_of};
 ghost use Rattle.promises.specs.Input.{entered, entered_with};

@@ -1,5 +1,7 @@
 // The choosing step and the set step, each on any rows lent to it: the state that is taken, and all that may be.
 // A row of s entries lies in the list of rows from a place on; row x of the cost table from place x * s on.
+#![tactic(auto)]
+
 ghost use Rattle.std.specs.Prelude.{◌≡◌, ◌+◌, ◌*◌, ◌<◌, ◌≤◌, length};
 ghost use Rattle.parsimony.specs.Least.{low, least};
 ghost use Rattle.parsimony.specs.Limits.{most_states};

@@ -1,4 +1,6 @@
 // The work on a table that has passed its tests: scores, labels, sets, the root's row, and the whole of a column.
+#![tactic(auto)]
+
 mod handing_up;
 mod labelling;
 mod scoring;

@@ -1,4 +1,6 @@
 // Counting by sets: the preliminary sets and the change count of a column.
+#![tactic(auto)]
+
 ghost use Rattle.std.specs.Prelude.{◌≡◌, ℕ, ◌*◌, ◌<◌, ◌≤◌, length, get_or};
 ghost use Rattle.parsimony.specs.Counting.{meet, change, counted_at};
 ghost use Rattle.parsimony.specs.Table.{Kind, Legal, kids_at, node_at, tips};
@@ -10,7 +12,7 @@ use states::States;
 use tree_nodes::nodes::{Node, node_at};
 
 // A node's preliminary set, and 1 where a change is counted at the node, else 0.
-#[derive(Drop)]
+#[derive(Clone, Copy)]
 struct NodeCount(Cell, usize);
 
 // An inner node's, from its children's sets: their common part if not empty, else their union and a change.

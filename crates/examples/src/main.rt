@@ -1,5 +1,7 @@
 // The paper's edges of the table calls: each refusal at its edge, and what is done beside it. A line has what is tried
 // and the code that comes back: the number, and for SHAPE the node above its 8 bits.
+#![tactic(auto)]
+
 ghost use Rattle.std.specs.Prelude.{◌≡◌, ◌<◌, ◌≤◌, length};
 
 use answer_codes::NO_START;

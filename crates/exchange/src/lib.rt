@@ -1,4 +1,6 @@
 // The host's one entry: a sheet's bytes and a column number go in, that column's report line comes out.
+#![tactic(auto)]
+
 ghost use Rattle.std.specs.Prelude.{◌≡◌, length};
 ghost use Rattle.exchange.specs.Entry.{Entered};
 ghost use Rattle.report_pages.specs.SheetLine.{Printable};

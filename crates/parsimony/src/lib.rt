@@ -1,5 +1,6 @@
 // What scoring means: definitions (specs/) and theorems (proofs/). This crate has no functions; it has the type of a
 // cell, and the paper's numbers that the code of several crates needs.
+#![tactic(auto)]
 
 // A cell of the matrix, or any other set of states: bit x stands for state x.
 pub type Cell = u16;

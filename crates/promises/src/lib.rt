@@ -1,8 +1,9 @@
 // What the table calls promise: definitions (specs/) and theorems (proofs/). This crate has no functions; it has the
 // types of the answers and of a start.
+#![tactic(auto)]
 
 // The refusals of the table calls, in the order of their numbers.
-#[derive(Drop)]
+#[derive(Clone, Copy)]
 pub enum Refusal {
     // 1: the two lists differ in length, or n is even or over 1,023.
     Size,
@@ -23,21 +24,21 @@ pub enum Refusal {
 }
 
 // The answer of a call.
-#[derive(Drop)]
+#[derive(Clone, Copy)]
 pub enum Answer {
     Done,
     Refused(Refusal),
 }
 
 // The answer of a call that gives a number when it is done.
-#[derive(Drop)]
+#[derive(Clone, Copy)]
 pub enum Valued {
     Done(usize),
     Refused(Refusal),
 }
 
 // A start for the root: none, or the state (labelling) or set of states (sets) that is given.
-#[derive(Drop)]
+#[derive(Clone, Copy)]
 pub enum Start {
     Free,
     Given(usize),

@@ -1,5 +1,7 @@
 // The report: a sheet from standard input, its report to standard output. All bytes of it are made by the library; here
 // is only what reads, goes from page to page, and writes.
+#![tactic(auto)]
+
 ghost use Rattle.std.specs.Prelude.{◌≡◌, ◌≤◌, length};
 ghost use Rattle.report_pages.specs.Page.{PrintableFrom};
 

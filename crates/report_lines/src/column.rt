@@ -17,7 +17,7 @@ use scorer::work_column;
 use sheet_lines::SPACE;
 
 // A column's line as written: its length, and the column's score.
-#[derive(Drop)]
+#[derive(Clone, Copy)]
 pub struct ColumnLine {
     pub length: usize,
     pub score: usize,

@@ -1,5 +1,7 @@
 // The lines of the columns of a sheet that has been read, one alone or as many as a page holds, and the line of a
 // fault.
+#![tactic(auto)]
+
 ghost use Rattle.std.specs.Prelude.{◌≡◌, ◌+◌, ◌*◌, ◌≤◌, length};
 ghost use Rattle.sheet_lines.specs.Fault.{fault_number, fault_line};
 ghost use Rattle.report_pages.specs.Page.{LineOf, PageOf, PrintableFrom};
@@ -58,7 +60,7 @@ pub fn sheet_line(
 }
 
 // A page as printed: the column to go on from, the number of bytes, and the scores so far.
-#[derive(Drop)]
+#[derive(Clone, Copy)]
 pub struct Page {
     pub next: usize,
     pub size: usize,

@@ -1,4 +1,6 @@
 // The root's row in a row room: where it stands, its least entry, and the states and sets of all nodes from it down.
+#![tactic(auto)]
+
 ghost use Rattle.std.specs.Prelude.{◌≡◌, ℕ, ◌+◌, ◌*◌, ◌-◌, ◌^◌, ◌<◌, ◌≤◌, length};
 ghost use Rattle.parsimony.specs.Allowed.{CostRules};
 ghost use Rattle.parsimony.specs.Least.{low, least};

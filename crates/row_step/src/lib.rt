@@ -1,6 +1,8 @@
 // The entries of a node's row, on any rows lent: a symbol tip's from its cell, a handed tip's as they are handed, and
 // an inner node's from its children's rows, which is the row step. A row of s entries lies in the list of rows from a
 // place on; row x of the cost table from place x * s on.
+#![tactic(auto)]
+
 ghost use Rattle.std.specs.Prelude.{◌≡◌, ◌+◌, ◌<◌, ◌≤◌, length};
 ghost use Rattle.parsimony.specs.Barred.{plus};
 ghost use Rattle.parsimony.specs.Column.{cell_entry};

@@ -1,4 +1,6 @@
 // From the tips up: the rows of a column.
+#![tactic(auto)]
+
 ghost use Rattle.std.specs.Prelude.{◌≡◌, ◌*◌, ◌<◌, ◌≤◌, length};
 ghost use Rattle.parsimony.specs.Row.{row};
 ghost use Rattle.parsimony.specs.Table.{Kind};

@@ -1,4 +1,6 @@
 // The table calls: scoring, labelling, the set call, handing up, the whole work on a column, and counting by sets.
+#![tactic(auto)]
+
 mod counting;
 mod handing_up;
 mod labelling;

@@ -1,4 +1,6 @@
 // The whole sheet: its sections, its tree line, and nothing after it.
+#![tactic(auto)]
+
 ghost use Rattle.std.specs.Prelude.{◌≡◌, ◌≤◌, length};
 ghost use Rattle.sheet.specs.Cells.{Inside, Filled};
 ghost use Rattle.sheet.specs.Gives.{GivesSheet, GivesTree};
@@ -13,7 +15,7 @@ use sheet_tips::Subtree;
 use sheet_tree::tree_line;
 
 // What a sound sheet has: the number of tips, columns and nodes, and the place of its first cell.
-#[derive(Drop)]
+#[derive(Clone, Copy)]
 pub struct Sheet {
     pub tips: usize,
     pub columns: usize,
@@ -22,7 +24,7 @@ pub struct Sheet {
 }
 
 // What a sheet comes to.
-#[derive(Drop)]
+#[derive(Clone, Copy)]
 pub enum Read {
     Sound(Sheet),
     Faulty(Fault),

@@ -1,4 +1,6 @@
 // The section of the columns: a line of symbols for each name.
+#![tactic(auto)]
+
 ghost use Rattle.std.specs.Prelude.{[], ◌≡◌, ◌-◌, ◌<◌, ◌≤◌, eqb, length};
 ghost use Rattle.sheet_lines.specs.Bytes.{text_of, every};
 ghost use Rattle.sheet_lines.specs.Section.{placed, section};
@@ -9,7 +11,7 @@ use sheet_lines::{Count, Fault, Part, Place, line_end, read_count};
 use sheet_symbols::{Symbol, symbol_of};
 
 // What the section comes to: the number of columns, the place of the first cell and that of the next line, or a fault.
-#[derive(Drop)]
+#[derive(Clone, Copy)]
 pub enum Matrix {
     Cells(usize, usize, usize),
     NoCells(Fault),

@@ -1,4 +1,6 @@
 // The section of the costs: the unit table, or four lines of four numbers.
+#![tactic(auto)]
+
 ghost use Rattle.std.specs.Prelude.{[], ◌≡◌, ◌<◌, ◌≤◌, length};
 ghost use Rattle.sheet_lines.specs.Counting.{GivesCount};
 ghost use Rattle.sheet_lines.specs.Section.{GivesSection, section, wrote};
@@ -10,7 +12,7 @@ use parsimony::MOST_COST;
 use sheet_lines::{Count, Fault, LINE_END, Number, Part, SPACE, field_at, read_count, with_count};
 
 // What a line of the cost table comes to: four costs and the place of the next line, or a fault.
-#[derive(Drop)]
+#[derive(Clone, Copy)]
 pub enum CostRow {
     Costs(usize, usize, usize, usize, usize),
     NoCosts(Fault),

@@ -1,4 +1,6 @@
 // The lines of a sheet: its bytes and line ends, words, numbers and count lines.
+#![tactic(auto)]
+
 ghost use Rattle.std.specs.Prelude.{◌≡◌, ◌-◌, ◌≤◌};
 ghost use Rattle.sheet_lines.specs.Bytes.{within};
 ghost use Rattle.sheet_lines.specs.Count.{count_of};
@@ -8,7 +10,7 @@ ghost use Rattle.sheet_lines.specs.Number.{digits_of, number_at, field_of};
 ghost use Rattle.sheet_lines.specs.Word.{word_of};
 
 // What is wrong with a sheet, and the line that it is found on.
-#[derive(Drop)]
+#[derive(Clone, Copy)]
 pub enum Fault {
     Sheet(usize),
     Symbol(usize),
@@ -16,28 +18,28 @@ pub enum Fault {
 }
 
 // A place in the sheet, or none.
-#[derive(Drop)]
+#[derive(Clone, Copy)]
 pub enum Place {
     At(usize),
     Nowhere,
 }
 
 // A number and the place after it, or no number.
-#[derive(Drop)]
+#[derive(Clone, Copy)]
 pub enum Number {
     Value(usize, usize),
     NoNumber,
 }
 
 // What a section comes to: the place of the next line, or a fault.
-#[derive(Drop)]
+#[derive(Clone, Copy)]
 pub enum Part {
     Read(usize),
     Wrong(Fault),
 }
 
 // What a count line comes to: the count and the place of the next line, or a fault.
-#[derive(Drop)]
+#[derive(Clone, Copy)]
 pub enum Count {
     Counted(usize, usize),
     Miscounted(Fault),

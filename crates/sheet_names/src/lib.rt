@@ -1,4 +1,6 @@
 // The names of a sheet: 1 to 32 letters, digits, `_`, `.` and `-`, all different.
+#![tactic(auto)]
+
 ghost use Rattle.std.specs.Prelude.{[], ◌≡◌, ◌≤◌, length, take, drop};
 ghost use Rattle.sheet_lines.specs.Bytes.{text_of, every};
 ghost use Rattle.sheet_lines.specs.Counting.{GivesCount};

@@ -1,4 +1,6 @@
 // The sheet up to its tree line: the sections one after the other.
+#![tactic(auto)]
+
 ghost use Rattle.std.specs.Prelude.{◌≡◌, ◌≤◌, length};
 ghost use Rattle.sheet_sections.specs.Sheet.{GivesRest, GivesSections, costs_from, columns_from, sheet_of};
 
@@ -9,7 +11,7 @@ use sheet_names::names_section;
 
 // What the sections say: the number of tips and of columns, the place of the first cell, and the place and the number
 // of the tree line.
-#[derive(Drop)]
+#[derive(Clone, Copy)]
 pub struct Sections {
     pub tips: usize,
     pub columns: usize,
@@ -19,7 +21,7 @@ pub struct Sections {
 }
 
 // What the sheet up to its tree line comes to.
-#[derive(Drop)]
+#[derive(Clone, Copy)]
 pub enum Reading {
     Sound(Sections),
     Faulty(Fault),

@@ -1,11 +1,13 @@
 // The symbols of a cell: one table by byte.
+#![tactic(auto)]
+
 ghost use Rattle.std.specs.Prelude.{◌≡◌};
 ghost use Rattle.sheet_symbols.specs.Symbol.{symbol_of};
 
 use parsimony::Cell;
 
 // What a byte stands for: a set of states, bit 0 for A, 1 for C, 2 for G, 3 for T; or it is not in the code list.
-#[derive(Drop)]
+#[derive(Clone, Copy)]
 pub enum Symbol {
     States(Cell),
     Unlisted,

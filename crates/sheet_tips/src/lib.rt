@@ -1,4 +1,6 @@
 // The names of tree text: what stands at a place is read into a tip of a tree table.
+#![tactic(auto)]
+
 ghost use Rattle.std.specs.Prelude.{◌≡◌, ◌<◌, ◌≤◌, eqb, length, get_or, set};
 ghost use Rattle.sheet_tips.specs.Marks.{is_marked, marked};
 ghost use Rattle.sheet_tips.specs.Reading.{RoomForSubtree, GivesSubtree};
@@ -10,7 +12,7 @@ use sheet_lines::{LINE_END, MOST_NAMES, Place, word_end};
 use sheet_names::name_byte;
 
 // What the text from a place on gives: the place after a tree and the number of nodes made so far, or no tree.
-#[derive(Drop)]
+#[derive(Clone, Copy)]
 pub enum Subtree {
     Tree(usize, usize),
     NoTree,

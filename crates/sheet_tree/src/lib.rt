@@ -1,4 +1,6 @@
 // Tree text: the tree line of a sheet, read into a tree table.
+#![tactic(auto)]
+
 ghost use Rattle.std.specs.Prelude.{◌≡◌, ◌<◌, ◌≤◌, length};
 ghost use Rattle.sheet_tree.specs.Parse.{pair_of, tree_of, line_tree};
 ghost use Rattle.sheet_tree.specs.Reading.{GivesLine};

@@ -1,4 +1,6 @@
 // Sets of states as the bits of a cell: bit x stands for state x.
+#![tactic(auto)]
+
 ghost use Rattle.std.specs.Prelude.{◌≡◌, ◌^◌, ◌<◌};
 ghost use Rattle.parsimony.specs.Limits.{most_states, cell_bits};
 ghost use Rattle.parsimony.specs.StateSet.{Member, Lowest, one, union, common, size};
@@ -7,7 +9,7 @@ ghost use Rattle.parsimony.specs.Tells.{Tells};
 use parsimony::Cell;
 
 // A set of states.
-#[derive(Drop)]
+#[derive(Clone, Copy)]
 pub struct States(pub Cell);
 
 impl States {

@@ -1,4 +1,6 @@
 // The test ROWS: whether the handed rows keep their rules.
+#![tactic(auto)]
+
 ghost use Rattle.std.specs.Prelude.{◌⊎◌, ◌≡◌, ℕ, ◌+◌, ◌*◌, ◌<◌, ◌≤◌, length, get_or};
 ghost use Rattle.parsimony.specs.Allowed.{HandedRules, most_handed};
 ghost use Rattle.parsimony.specs.Barred.{barred};

@@ -1,4 +1,6 @@
 // The tests 1 to 5, in their order: what every call asks of its table.
+#![tactic(auto)]
+
 ghost use Rattle.std.specs.Prelude.{List, ℕ};
 ghost use Rattle.promises.specs.CallRules.{matrix_rules, table_rules};
 ghost use Rattle.promises.specs.Input.{entered, entered_with};
@@ -13,7 +15,7 @@ use tree_nodes::nodes::size_fits;
 use tree_test::{Tree, check_tree};
 
 // What tests answer: all are passed, by a table with so many handed tips; or a refusal is given.
-#[derive(Drop)]
+#[derive(Clone, Copy)]
 pub enum Tested {
     Passed(usize),
     Refused(Refusal),

@@ -8,7 +8,7 @@ ghost use Rattle.tree_nodes.specs.NodeOf.{node_of, kind_of, TipCounts};
 use parsimony::{MOST_NODES, NO_CHILD};
 
 // What the table says of a node: a tip with the number of its row, or an inner node with its children.
-#[derive(Drop)]
+#[derive(Clone, Copy)]
 pub enum Node {
     Symbol(usize),
     Handed(usize),
@@ -19,7 +19,7 @@ pub enum Node {
 const FIRST_HANDED: u16 = 32768;
 
 // How many of a table's nodes are symbol tips, and how many handed tips.
-#[derive(Drop)]
+#[derive(Clone, Copy)]
 pub struct Tips {
     pub symbol: usize,
     pub handed: usize,

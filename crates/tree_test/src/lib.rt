@@ -1,4 +1,6 @@
 // The test of a tree: the lowest node at fault.
+#![tactic(auto)]
+
 ghost use Rattle.std.specs.Prelude.{◌≡◌, suc, ◌<◌, ◌≤◌, length, get_or};
 ghost use Rattle.parsimony.specs.Fault.{KeepsEntries};
 ghost use Rattle.parsimony.specs.Table.{SizeRules, node_at, child_uses};
@@ -12,7 +14,7 @@ use tree_nodes::nodes::{Node, node_at, tips_of};
 use tree_uses::{all_used, note_children, take_kids, take_row};
 
 // What the test of a tree finds: a legal tree with so many symbol tips and handed tips, or the lowest node at fault.
-#[derive(Drop)]
+#[derive(Clone, Copy)]
 pub enum Tree {
     Legal(usize, usize),
     FaultAt(usize),

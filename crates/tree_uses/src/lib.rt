@@ -1,4 +1,6 @@
 // Marks: for each number up to 1,022 how many nodes use it, as a child or as a row.
+#![tactic(auto)]
+
 ghost use Rattle.std.specs.Prelude.{◌≡◌, ℕ, ◌+◌, ◌<◌, ◌≤◌, length, get_or};
 ghost use Rattle.parsimony.specs.Table.{SizeRules, node_at, kids_of, child_uses};
 ghost use Rattle.parsimony.specs.Tells.{Tells};

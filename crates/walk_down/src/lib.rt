@@ -1,4 +1,6 @@
 // From the root down: the labels and the sets of a column, read off any rows in a row room.
+#![tactic(auto)]
+
 ghost use Rattle.std.specs.Prelude.{◌≡◌, ℕ, ◌*◌, ◌<◌, ◌≤◌, length};
 ghost use Rattle.parsimony.specs.Allowed.{CostRules};
 ghost use Rattle.parsimony.specs.Table.{Legal, kids_at};
