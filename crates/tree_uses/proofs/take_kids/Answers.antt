@@ -1,0 +1,6 @@
+-- `take_kids` meets its contract: children that are free get a use each, and else nothing is written.
+use Rattle.tree_uses.proofs.MarkLaws.{raised_both, raised_most, most_weak}
+use Rattle.tree_uses.proofs.take_kids.Goals as goal
+
+pub add_use-requires-2 : goal.add_use-requires-2
+add_use-requires-2 c = raised_most 65533 _ _ _ c.requires.1 c.add_use.ensures
