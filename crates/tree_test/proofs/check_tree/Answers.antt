@@ -1,0 +1,20 @@
+-- `check_tree` meets its contract: the walk starts from the counts of all tips and from marks that are all 0,
+-- and the uses by the nodes after it are added to its marks before an unused node is looked for.
+use Rattle.tree_uses.proofs.MarkLaws.{counted_zeros}
+use Rattle.tree_test.proofs.FoundLaws.{found_none, found_fault}
+use Rattle.tree_test.proofs.VisitLaws.{surveyed, marked_none}
+use borrow.Author.Rules.{rules}
+use Rattle.tree_test.proofs.check_tree.Goals as goal
+
+pub walk-broken-requires-clause-marked : goal.walk-broken-requires-clause-marked
+walk-broken-requires-clause-marked c = marked_none _ _ _ _ counted_zeros counted_zeros counted_zeros
+
+pub returns-then-fault-left : goal.returns-then-fault-left
+returns-then-fault-left c =
+    record {
+      found = record {
+        rules = found_none c.requires.most c.note_children.ensures c.walk-broken.ensures.first_not
+            c.first_unused-fault.ensures c.if-fault-left.true;
+        tips = c.tips_of-tips.ensures;
+      };
+    }
