@@ -1,0 +1,17 @@
+-- `choose` meets its contract. The loop's invariant: of the states below y the lowest is the lowest least, and best is
+-- its sum. The measure is what is left of the states.
+use mathlib.Core.Path.{◌≡◌, sym, ap, ◌∙◌}
+use Prim.Native.Nat.{ℕ, ◌-◌, ◌*◌, ◌≤◌, ◌<◌}
+use Rattle.row_step.proofs.LeastSteps.{Looked, looked_one, looked_lower, looked_other}
+use Rattle.row_step.specs.Lane.{lane}
+use Rattle.choice_steps.proofs.choose.Given as goal
+
+abbrev pub invariant-loop-y : goal.invariant-loop-y
+invariant-loop-y l = (1 ≤ l.y)
+    × (l.y ≤ l.s)
+    × (l.lowest < l.y)
+    × (l.best ≡ lane l.costs (l.x * l.s) l.rows l.at l.lowest)
+    × Looked (lane l.costs (l.x * l.s) l.rows l.at) l.y l.lowest
+
+abbrev pub decreases-loop-y : goal.decreases-loop-y
+decreases-loop-y l = l.s - l.y
