@@ -1,0 +1,22 @@
+-- `fill_states` meets its contract. The loop's invariant: the root has its start, and the children of each node from v
+-- on have their states. The measure is the number of nodes to go, v.
+use Prim.Native.Nat.{◌≤◌}
+use lib.ListN.{length, length-set}
+use Rattle.parsimony.specs.Table.{kids_at}
+use Rattle.walk_down.proofs.DownSteps.{
+  Descending,
+  descending_start,
+  descending_done,
+  descending_step,
+  descending_low,
+}
+use Rattle.walk_down.specs.Pass.{chosen}
+use Rattle.walk_down.proofs.fill_states.Given as goal
+
+abbrev pub invariant-loop-v : goal.invariant-loop-v
+invariant-loop-v l = (l.v ≤ length l.left)
+    × (length l.left ≤ length l.initial.states)
+    × Descending (length l.left) (kids_at l.left l.right) (chosen l.s l.costs l.rows) l.start l.v l.initial.states l.states
+
+abbrev pub decreases-loop-v : goal.decreases-loop-v
+decreases-loop-v l = l.v
