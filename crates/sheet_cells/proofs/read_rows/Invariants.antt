@@ -1,0 +1,11 @@
+-- `read_rows` meets its contract. The invariant: i rows are read. The measure is the number of rows left.
+use Prim.Native.Nat.{◌-◌}
+use Rattle.sheet_lines.proofs.Passing.{Passing, passing_start, passing_on, passing_stop, passing_end}
+use Rattle.sheet_cells.specs.Cells.{row_judge}
+use Rattle.sheet_cells.proofs.read_rows.Given as goal
+
+abbrev pub invariant-loop-i : goal.invariant-loop-i
+invariant-loop-i l = Passing (row_judge l.c l.sheet) l.t l.at l.line l.i l.place l.number
+
+abbrev pub decreases-loop-i : goal.decreases-loop-i
+decreases-loop-i l = l.t - l.i

@@ -1,0 +1,7 @@
+-- `flat_costs` meets its contract, entry by entry.
+use Rattle.sheet_costs.proofs.FlatLaws.{sixteen, flat_list}
+use Rattle.sheet_costs.proofs.flat_costs.Goals as goal
+
+pub returns : goal.returns
+unfolding sixteen
+returns c = flat_list _

@@ -1,0 +1,30 @@
+-- `number_at` meets its contract, by the first byte: none, a zero, no digit, another digit.
+use mathlib.Core.Path.{◌∙◌}
+use native.Mathlib.Omega.{arith}
+use Rattle.sheet_lines.proofs.ByteLaws.{test_yes, test_no, within_told}
+use Rattle.sheet_lines.proofs.NumberSteps.{number_past, number_zero, number_none, number_more}
+use Rattle.sheet_lines.proofs.number_at.Goals as goal
+
+pub returns-then-sheet-at : goal.returns-then-sheet-at
+returns-then-sheet-at c = number_past _ _ _ c.if-sheet-at.true
+
+pub returns-then-sheet-at-eq-ZERO : goal.returns-then-sheet-at-eq-ZERO
+returns-then-sheet-at-eq-ZERO c = number_zero _ _ _ c.if-sheet-at.false c.if-sheet-at-eq-ZERO.true
+
+pub returns-then-not-byte_within : goal.returns-then-not-byte_within
+returns-then-not-byte_within c =
+    number_none _ _ _ c.if-sheet-at.false c.if-sheet-at-eq-ZERO.false
+    (test_no c.byte_within.ensures c.if-not-byte_within.true-raw)
+
+pub more_digits-requires : goal.more_digits-requires
+more_digits-requires c =
+    let w = within_told _ _ _ (test_yes c.byte_within.ensures c.if-not-byte_within.false-raw) in
+    (omega arith, c.requires)
+
+pub returns : goal.returns
+returns c =
+    c.more_digits.ensures
+    ∙ number_more _ _ _ _ c.if-sheet-at.false
+    c.if-sheet-at-eq-ZERO.false
+    (test_yes c.byte_within.ensures c.if-not-byte_within.false-raw)
+    c.digit_value.ensures

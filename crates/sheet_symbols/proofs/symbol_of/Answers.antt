@@ -1,0 +1,21 @@
+-- `symbol_of` meets its contract: the table has the code list's set at each byte.
+use mathlib.Core.Path.{◌∙◌}
+use Rattle.sheet_symbols.proofs.SymbolLaws.{symbol_none, symbol_some}
+use Rattle.sheet_symbols.proofs.Table.{table, table_at}
+use Rattle.sheet_symbols.proofs.symbol_of.Goals as goal
+
+-- the entry is empty
+pub returns-then-set-eq0 : goal.returns-then-set-eq0
+unfolding table
+returns-then-set-eq0 c =
+    let entry =
+    table_at c.wide.result c.args.byte c.wide.ensures c.ranges.byte.fits in
+    symbol_none _ (entry ∙ c.if-set-eq0.true)
+
+-- the entry is a set
+pub returns : goal.returns
+unfolding table
+returns c =
+    let entry =
+    table_at c.wide.result c.args.byte c.wide.ensures c.ranges.byte.fits in
+    symbol_some _ _ entry c.if-set-eq0.false

@@ -1,0 +1,12 @@
+-- `find_row` meets its contract. The invariant: the names from r on decide.
+-- The measure is the number of names left.
+use Rattle.sheet_tips.proofs.TokenLaws.{search_from, search_begin, search_found, search_more, search_none}
+use Prim.Native.Nat.{◌-◌}
+use mathlib.Core.Path.{◌≡◌, refl, sym, ◌∙◌}
+use Rattle.sheet_tips.proofs.find_row.Given as goal
+
+abbrev pub invariant-loop-r : goal.invariant-loop-r
+invariant-loop-r l = search_from l.sheet l.names l.t l.at l.end 0 ≡ search_from l.sheet l.names l.t l.at l.end l.r
+
+abbrev pub decreases-loop-r : goal.decreases-loop-r
+decreases-loop-r l = l.t - l.r
