@@ -1,0 +1,8 @@
+-- `total_line` meets its contract: it is a line of a word and a number.
+use Rattle.report_lines.specs.Frame.{total_line}
+use Rattle.sheet_lines.specs.Bytes.{bytes}
+use Rattle.report_lines.proofs.frame.total_line.Goals as goal
+
+pub returns : goal.returns
+unfolding total_line bytes
+returns c = c.number_line.ensures
