@@ -1,0 +1,57 @@
+-- `print_page` meets its contract. The invariant: the lines of the columns up to next stand in the page. The measure is
+-- the number of columns left.
+use Prim.Native.Nat.{◌-◌}
+use mathlib.Core.Path.{◌≡◌, refl, ◌∙◌}
+use Rattle.report_pages.proofs.PrintSteps.{printable_nodes}
+use Rattle.report_pages.proofs.PageSteps.{
+  Turn,
+  turn_none,
+  turn_printable,
+  turn_score,
+  turn_more,
+  turn_full,
+  turn_end,
+  room_kept,
+}
+use native.Mathlib.Omega.{arith}
+use Rattle.report_pages.proofs.print_page.Goals as goal
+
+pub loop-next-init : goal.loop-next-init
+loop-next-init c = (
+  turn_none _ _ _ _ _ _ _ _ _ _ _ _ _ c.requires.printable_from c.requires.room c.requires.line_len.0
+      c.requires.line_len.2,
+  refl,
+  refl,
+  refl,
+  refl,
+)
+
+pub overflow_add-all : goal.overflow_add-all
+overflow_add-all c =
+    let turn = c.loop-next in
+    let ready = c.requires.printable_from in
+    let holds = turn.invariant.0 in
+    let few = holds.few in
+    let j =
+    (printable_nodes _ _ _ _ _ _ (turn_printable _ _ _ _ _ _ _ _ _ _ _ _ _ _ _ _ _ ready holds c.loop-next-test.true)).1 in
+    let small = turn_score _ _ _ _ _ _ _ _ _ _ _ _ _ _ _ _ _ ready holds c.loop-next-test.true c.put_line-put.ensures.0 in
+    record { fits = omega arith }
+
+pub loop-next-preserved : goal.loop-next-preserved
+loop-next-preserved c =
+    let turn = c.loop-next in
+    let kept-page = c.put_line-put.auto.page in
+    let Kept-line = c.put_line-put.auto.line in
+    let kept-rows = c.put_line-put.auto.rows in
+    let Kept-sets = c.put_line-put.auto.sets in
+    let kept-states = c.put_line-put.auto.states in
+    let holds = turn.invariant.0 in (
+      turn_more _ _ _ _ _ _ _ _ _ _ _ _ _ _ _ _ _ c.requires.printable_from holds c.loop-next-test.true _ _ _ _ _ _ _ _ _
+          c.put_line-put.ensures.0 (omega arith)
+          (room_kept _ _ _ _ _ _ _ _ _ _ _ _ holds.room c.put_line-put.ensures.1 kept-states Kept-sets kept-rows
+          Kept-line) (Kept-line ∙ holds.long) kept-page c.put_line-put.ensures.2,
+      kept-states ∙ turn.invariant.1,
+      Kept-sets ∙ turn.invariant.2,
+      kept-rows ∙ turn.invariant.3,
+      Kept-line ∙ turn.invariant.4,
+    )
