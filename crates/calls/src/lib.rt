@@ -1,5 +1,5 @@
-// The five table calls for C and Rust: numbers as u64, a slice as pointer and count. The result's low 8 bits are the
-// number; above them stand the node for SHAPE and the change count of set counting, else 0.
+// The five table calls with numbers as u64, as C and Rust call them (`calls_c` exports them). The result's low 8 bits are
+// the number; above them stand the node for SHAPE and the change count of set counting, else 0.
 #![tactic(auto)]
 
 ghost use Rattle.std.specs.Prelude.{◌≡◌, [], ◌<◌};
@@ -13,8 +13,7 @@ use parsimony::Cell;
 use promises::Valued;
 
 // Scoring: the score of each column.
-#[unsafe(no_mangle)]
-pub extern "C" fn fernijster_score(
+pub fn fernijster_score(
     left: &[u16],
     right: &[u16],
     s: u64,
@@ -35,8 +34,7 @@ pub extern "C" fn fernijster_score(
 }
 
 // Labelling: the state of each node in one column, from a start state.
-#[unsafe(no_mangle)]
-pub extern "C" fn fernijster_label(
+pub fn fernijster_label(
     left: &[u16],
     right: &[u16],
     s: u64,
@@ -69,8 +67,7 @@ pub extern "C" fn fernijster_label(
 }
 
 // The set call: the set of each node in one column, from a start set.
-#[unsafe(no_mangle)]
-pub extern "C" fn fernijster_sets(
+pub fn fernijster_sets(
     left: &[u16],
     right: &[u16],
     s: u64,
@@ -103,8 +100,7 @@ pub extern "C" fn fernijster_sets(
 }
 
 // Handing up: the root's row in one column.
-#[unsafe(no_mangle)]
-pub extern "C" fn fernijster_hand_up(
+pub fn fernijster_hand_up(
     left: &[u16],
     right: &[u16],
     s: u64,
@@ -146,8 +142,7 @@ fn count_code(counted: Valued) -> u64
 }
 
 // Counting by sets: the preliminary set of each node in one column, and the number of changes.
-#[unsafe(no_mangle)]
-pub extern "C" fn fernijster_count(
+pub fn fernijster_count(
     left: &[u16],
     right: &[u16],
     s: u64,

@@ -1,4 +1,5 @@
-// The host's one entry: a sheet's bytes and a column number go in, that column's report line comes out.
+// The host's one entry: a sheet's bytes and a column number go in, that column's report line comes out (`exchange_c`
+// exports it).
 #![tactic(auto)]
 
 ghost use Rattle.std.specs.Prelude.{◌≡◌, length};
@@ -62,8 +63,7 @@ fn give_line(
 
 // The line of a column of the sheet, without its line end: the low 8 bits of the result are the number; bits 8 to 31
 // the bytes written when done, the line when the sheet is refused.
-#[unsafe(no_mangle)]
-pub extern "C" fn fernijster_column(sheet: &[u8], column: u64, out: &mut [u8]) -> u64
+pub fn fernijster_column(sheet: &[u8], column: u64, out: &mut [u8]) -> u64
     ensures { Entered sheet.now column out.old result out.new }
 {
     let mut names = [0usize; MOST_NAMES];
