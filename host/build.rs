@@ -1,4 +1,4 @@
-//! Links the proved libraries, which `rt staticlib` writes below the repository's root.
+//! Links the proved libraries, which `tools/build` writes below the repository's root.
 
 use std::env;
 use std::path::PathBuf;
@@ -10,7 +10,7 @@ fn main() {
     println!("cargo:rustc-link-search=native={}", folder.display());
     for library in ["calls", "exchange"] {
         let file = folder.join(format!("lib{library}.a"));
-        assert!(file.is_file(), "there is no {}: make it by `rt staticlib {library}`", file.display());
+        assert!(file.is_file(), "there is no {}: make it by `tools/build {library}`", file.display());
         println!("cargo:rustc-link-lib=static={library}");
     }
 }
