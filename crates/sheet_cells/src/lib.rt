@@ -54,6 +54,7 @@ fn has_length(at: usize, end: usize, c: usize) -> bool
 }
 
 // The row of the line from a place up to its end: its length first, and then its symbols.
+#[tactic(auto, using(crate::proofs::CellSteps::row_length, crate::proofs::CellSteps::row_unlisted, crate::proofs::CellSteps::row_whole), unfolding(sheet_lines::specs::Section::placed))]
 fn judge_row(sheet: &[u8], c: usize, at: usize, end: usize, line: usize) -> Part
     requires { (at ≤ end) × (end < length sheet.now) }
     ensures { placed at result ≡ row_to c sheet.now at line end }

@@ -4,3 +4,4 @@ pub mod Below
 pub mod Cases
 pub mod SymbolLaws
 pub mod Table
+pub mod TableLaws

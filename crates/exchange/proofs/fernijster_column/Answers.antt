@@ -12,13 +12,12 @@ fault_code-requires c =
     omega arith
 
 pub returns-then-s-column : goal.returns-then-s-column
-returns-then-s-column c = read_which _ _ _ _ _ _ _ _ _ _ c.read_sheet.ensures c.in-Sound.is c.if-s-column.true
+returns-then-s-column c = read_which _ _ _ _ _ _ _ _ _ _ c.read_sheet.ensures c.in-Sound.is (omega arith)
 
 pub give_line-requires-clause-printable : goal.give_line-requires-clause-printable
 give_line-requires-clause-printable c =
-    let given2 = c.in-Sound.is in
-    read_printable _ _ _ _ _ _ _ _ c.read_sheet.ensures given2 _ _ refl refl c.flat_costs-costs.ensures
-    c.if-s-column.false
+    read_printable _ _ _ _ _ _ _ _ c.read_sheet.ensures c.in-Sound.is _ _ refl refl c.flat_costs-costs.ensures
+    (omega arith)
 
 pub returns-in-Faulty : goal.returns-in-Faulty
 returns-in-Faulty c =

@@ -1,7 +1,8 @@
 -- `symbol_of` meets its contract: the table has the code list's set at each byte.
 use mathlib.Core.Path.{◌∙◌}
 use Rattle.sheet_symbols.proofs.SymbolLaws.{symbol_none, symbol_some}
-use Rattle.sheet_symbols.proofs.Table.{table, table_at}
+use Rattle.sheet_symbols.proofs.Table.{table}
+use Rattle.sheet_symbols.proofs.TableLaws.{table_at}
 use Rattle.sheet_symbols.proofs.symbol_of.Goals as goal
 
 -- the entry is empty
