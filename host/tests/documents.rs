@@ -13,7 +13,7 @@ fn read(path: &str) -> String {
     fs::read_to_string(root().join(path)).unwrap_or_else(|e| panic!("{path}: {e}"))
 }
 
-/// All files below a folder of the repository, as paths from the repository's root.
+/// All files below a folder of the repository, as paths from the repository's root, but for what `rt` makes in `out/`.
 fn files_below(folder: &str) -> Vec<String> {
     let mut found = Vec::new();
     let mut open = vec![folder.to_string()];
@@ -22,7 +22,9 @@ fn files_below(folder: &str) -> Vec<String> {
             let entry = entry.expect("an entry of a folder");
             let path = format!("{at}/{}", entry.file_name().to_string_lossy());
             if entry.path().is_dir() {
-                open.push(path);
+                if entry.file_name() != "out" {
+                    open.push(path);
+                }
             } else {
                 found.push(path);
             }
@@ -31,11 +33,11 @@ fn files_below(folder: &str) -> Vec<String> {
     found
 }
 
-/// The crates of crates.txt.
+/// The crates of crates.txt: the first word of a line with a colon.
 fn crates() -> BTreeSet<String> {
     let lines = read("crates.txt");
     let listed = lines.lines().filter(|line| !line.starts_with('#'));
-    listed.filter_map(|line| Some(line.split_once(':')?.0.to_string())).collect()
+    listed.filter_map(|line| Some(line.split_once(':')?.0.split_whitespace().next()?.to_string())).collect()
 }
 
 const KEYWORDS: &[&str] = &[
@@ -127,10 +129,17 @@ fn every_name_is_declared() {
 #[test]
 fn every_theorem_stands_in_a_file_that_is_named_with_it() {
     let sources = names_by_file();
+    let declared = |name: &str, proofs: bool| {
+        sources.iter().any(|(path, names)| path.contains("/proofs/") == proofs && names.contains(name))
+    };
+    let crates = crates();
+    let is_theorem = |name: &&str| {
+        is_name(name) && declared(name, true) && !declared(name, false) && !crates.contains(*name)
+    };
     let mut elsewhere = Vec::new();
     for line in read("docs/PROMISES.md").lines() {
         let files: BTreeSet<_> = places(line).into_iter().flat_map(|place| at_place(place, &sources)).collect();
-        let theorems = quoted(line).into_iter().filter(|text| is_name(text) && text.contains('-'));
+        let theorems = quoted(line).into_iter().filter(is_theorem);
         let here = |theorem: &str| files.is_empty() || files.iter().any(|file| sources[*file].contains(theorem));
         elsewhere.extend(theorems.filter(|theorem| !here(theorem)).map(|theorem| format!("{theorem}: {line}")));
     }

@@ -42,6 +42,7 @@ pub fn code(answer: Answer) -> u64
 }
 
 // The start that a number stands for.
+#[tactic(auto, using(crate::proofs::StartLaws::start_none, crate::proofs::StartLaws::start_given))]
 pub fn start_of(x: u64) -> Start
     ensures { result ≡ start_of x }
 {

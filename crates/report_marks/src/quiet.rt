@@ -30,6 +30,7 @@ fn count_cells(cells: &[Cell], set: Cell) -> usize
 }
 
 // 1 where base x occurs at two or more tips as plain x, else 0.
+#[tactic(auto, using(crate::proofs::QuietSteps::often_no, crate::proofs::QuietSteps::often_yes))]
 fn base_often(cells: &[Cell], x: usize) -> usize
     requires { x < 4 }
     ensures { (result ≡ often cells.now x) × (result ≤ 1) }

@@ -21,6 +21,7 @@ fn wide(x: u16) -> u32
 }
 
 // The sum in which a barred term bars.
+#[tactic(auto, using(parsimony::proofs::BarredLaws::plus_left, parsimony::proofs::BarredLaws::plus_right, parsimony::proofs::BarredLaws::plus_open))]
 fn barred_sum(a: u32, b: u32) -> u32
     requires { Within 2000000000 a × Within 2000000000 b }
     ensures { result ≡ plus a b }

@@ -143,6 +143,7 @@ fn more_digits(sheet: &[u8], at: usize, start: usize, most: usize) -> Number
 }
 
 // The number that starts at a place, with no leading zero, if it is at most most.
+#[tactic(auto, using(crate::proofs::NumberSteps::number_past, crate::proofs::NumberSteps::number_zero, crate::proofs::NumberSteps::number_none, crate::proofs::NumberSteps::number_more))]
 pub fn number_at(sheet: &[u8], at: usize, most: usize) -> Number
     requires { most ≤ 65535 }
     ensures { result ≡ number_at most sheet.now at }

@@ -81,6 +81,7 @@ fn find_row(sheet: &[u8], names: &[usize], t: usize, at: usize, end: usize) -> P
 }
 
 // The name of row r has been met.
+#[tactic(auto, unfolding(crate::specs::Marks::is_marked))]
 fn test_mark(marks: &[u8; MOST_NAMES], r: usize) -> bool
     requires { r < 512 }
     ensures { result ≡ is_marked marks.now r }

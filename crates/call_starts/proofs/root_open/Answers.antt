@@ -1,5 +1,6 @@
 -- `root_open` meets its contract: an inner root bars nothing, a tip what its row bars. What the table says of the root
 -- gives the place of its cell or of its handed entry.
+-- Assumes nothing.
 use Rattle.std.proofs.Common.{◌≡◌, ℕ, ◌+◌, ◌-◌, ◌*◌, ◌<◌, length, get_or, sym, ap, ◌∙◌, subst, arith}
 use native.Mathlib.Nat.{le-mul_of_pos_right}
 use Rattle.parsimony.specs.Column.{cell_at, handed_at}

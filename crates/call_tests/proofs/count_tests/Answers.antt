@@ -1,4 +1,5 @@
 -- `count_tests` meets its contract: an earlier refusal stays, then the column, the costs, the tips and the room decide.
+-- Assumes nothing.
 use mathlib.Core.Path.{subst}
 use Rattle.parsimony.proofs.TellsLaws.{unless_yes, unless_no}
 use Rattle.promises.proofs.AnswerLaws.{refused_more}

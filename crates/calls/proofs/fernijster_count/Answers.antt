@@ -1,4 +1,5 @@
 -- `fernijster_count` meets its contract: the answer of `count`, packed.
+-- Assumes nothing.
 use native.Mathlib.Omega.{arith}
 use Rattle.calls.proofs.CodeLaws.{counted_small}
 use Rattle.calls.proofs.fernijster_count.Goals as goal

@@ -1,6 +1,7 @@
 -- `child_set` meets its contract. The loop's invariant: the set has the states that reach the least under a parent's
 -- state below x, and from is the place of row x of the costs. The measure is what is left of the states. Assumes
 -- nothing.
+-- Assumes nothing.
 use mathlib.Core.Path.{◌≡◌, sym, ap, ap₂, ◌∙◌, subst}
 use Prim.Native.Nat.{suc, ◌+◌, ◌-◌, ◌*◌, ◌≤◌}
 use Rattle.choice_steps.specs.Ties.{reached_under, reached}

@@ -1,5 +1,6 @@
 -- `choose` meets its contract. The loop's invariant: of the states below y the lowest is the lowest least, and best is
 -- its sum. The measure is what is left of the states.
+-- Assumes nothing.
 use mathlib.Core.Path.{◌≡◌, sym, ap, ◌∙◌}
 use Prim.Native.Nat.{ℕ, ◌-◌, ◌*◌, ◌≤◌, ◌<◌}
 use Rattle.row_step.proofs.LeastSteps.{Looked, looked_one, looked_lower, looked_other}

@@ -1,4 +1,5 @@
 -- `least_entry` meets its contract: the entry at the lowest least state is the least.
+-- Assumes nothing.
 use mathlib.Core.Path.{sym, ap, ◌∙◌, subst}
 use Prim.Native.Nat.{◌<◌}
 use native.Mathlib.Omega.{arith}

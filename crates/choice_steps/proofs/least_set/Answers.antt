@@ -1,5 +1,6 @@
 -- `least_set` meets its contract. The loop's invariant: the set has the states below y at which the row is least.
 -- The measure is what is left of the states.
+-- Assumes nothing.
 use mathlib.Core.Path.{◌≡◌, sym, ap, ap₂, ◌∙◌}
 use Prim.Native.Nat.{◌-◌, ◌≤◌}
 use native.Mathlib.Omega.{arith}

@@ -1,5 +1,6 @@
 -- `lowest_least` meets its contract. The loop's invariant: of the states below y the lowest is the lowest least.
 -- The measure is what is left of the states.
+-- Assumes nothing.
 use mathlib.Core.Path.{◌≡◌, sym, ap, ◌∙◌}
 use Prim.Native.Nat.{ℕ, ◌-◌, ◌≤◌, ◌<◌}
 use native.Mathlib.Omega.{arith}

@@ -1,4 +1,5 @@
 -- `join` meets its contract: the two cases are those of the meet of two sets.
+-- Assumes nothing.
 use mathlib.Core.Path.{sym, ◌∙◌}
 use Rattle.counts_up.proofs.CountSteps.{meet_apart, meet_common}
 use Rattle.counts_up.proofs.join.Goals as goal

@@ -1,5 +1,6 @@
 -- `node_count` meets its contract. What the table says of node v gives the place of its cell or that its children are
 -- below it, and the equations of counting give its set and its change.
+-- Assumes nothing.
 use mathlib.Core.Path.{◌≡◌, ap, sym, ◌∙◌}
 use Prim.Native.Nat.{◌+◌, ◌*◌, ◌<◌}
 use native.Mathlib.Omega.{arith}

@@ -1,5 +1,6 @@
 -- `comb` is safe. The loop's invariant: v is at most 1,025, and the lists keep their length.
 -- The measure is what is left of the nodes.
+-- Assumes nothing.
 use mathlib.Core.Path.{◌≡◌}
 use Prim.Native.Nat.{◌-◌, ◌≤◌}
 use lib.ListN.{length}

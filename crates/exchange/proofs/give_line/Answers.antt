@@ -1,4 +1,5 @@
 -- `give_line` meets its contract: the line is printed, and put where it fits.
+-- Assumes nothing.
 use Rattle.report_pages.proofs.PageSteps.{printed_inside}
 use Rattle.exchange.proofs.EntrySteps.{give_room, give_done}
 use native.Mathlib.Omega.{arith}

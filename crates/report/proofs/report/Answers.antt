@@ -1,4 +1,5 @@
 -- `report` meets its contract: what the reader leaves may be printed.
+-- Assumes nothing.
 use Rattle.report_pages.proofs.ReadLaws.{read_long, read_from}
 use mathlib.Core.Path.{refl, sym}
 use Rattle.report.proofs.report.Goals as goal

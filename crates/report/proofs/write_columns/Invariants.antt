@@ -1,5 +1,6 @@
 -- `write_columns` meets its contract. The invariant: the rooms keep their length, and next is within the columns. The
 -- measure is the number of columns left.
+-- Assumes nothing.
 use lib.ListN.{length}
 use Prim.Native.Nat.{◌≤◌, ◌-◌, ◌*◌}
 use mathlib.Core.Path.{◌≡◌, refl, sym, ◌∙◌}

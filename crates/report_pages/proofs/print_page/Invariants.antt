@@ -1,5 +1,6 @@
 -- `print_page` meets its contract. The invariant: the lines of the columns up to next stand in the page. The measure is
 -- the number of columns left.
+-- Assumes nothing.
 use Prim.Native.Nat.{◌-◌}
 use mathlib.Core.Path.{◌≡◌, refl, ◌∙◌}
 use Rattle.report_pages.proofs.PageSteps.{

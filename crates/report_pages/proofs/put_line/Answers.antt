@@ -1,4 +1,5 @@
 -- `put_line` meets its contract.
+-- Assumes nothing.
 use Rattle.sheet_lines.proofs.PartLaws.{part_size}
 use Rattle.report_pages.proofs.PageSteps.{printed_inside, line_of, put_inside, line_end_inside}
 use native.Mathlib.Omega.{arith}

@@ -1,4 +1,5 @@
 -- `sheet_line` meets its contract.
+-- Assumes nothing.
 use Rattle.promises.specs.CallRules.{Allowed}
 use Rattle.report_pages.proofs.PrintSteps.{
   printable_cells,

@@ -1,5 +1,6 @@
 -- `cell_row` meets its contract. The loop's invariant: the entries of the states below x are written.
 -- The measure is what is left of the states.
+-- Assumes nothing.
 use mathlib.Core.Path.{subst, ◌≡◌, sym}
 use Prim.Native.Nat.{◌+◌, ◌-◌, ◌≤◌}
 use native.Mathlib.Omega.{arith}

@@ -1,5 +1,6 @@
 -- `copy_row` meets its contract. The loop's invariant: the entries copied so far are written.
 -- The measure is what is left of the states.
+-- Assumes nothing.
 use Prim.Native.Nat.{◌-◌, ◌≤◌}
 use Rattle.row_step.specs.Lane.{entry_at}
 use Rattle.parsimony.specs.Written.{Wrote}

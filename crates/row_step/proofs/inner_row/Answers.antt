@@ -1,5 +1,6 @@
 -- `inner_row` meets its contract. The loop's invariant: the entries of the states below x are written, and from is the
 -- place of row x of the costs. The measure is what is left of the states.
+-- Assumes nothing.
 use mathlib.Core.Path.{subst, ◌≡◌, sym, ap, ◌∙◌}
 use Prim.Native.Nat.{suc, ◌+◌, ◌-◌, ◌*◌, ◌≤◌}
 use native.Mathlib.Nat.{zero-mul, suc-mul}

@@ -1,4 +1,5 @@
 -- `join_entry` meets its contract: both least sums are small enough to be added.
+-- Assumes nothing.
 use mathlib.Core.Logic.{inl, inr, ⊎_elim}
 use mathlib.Core.Path.{ap₂, sym, ◌∙◌, subst}
 use native.Mathlib.Omega.{arith}

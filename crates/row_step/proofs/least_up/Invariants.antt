@@ -1,5 +1,6 @@
 -- `least_up` meets its contract. The loop's invariant: the best is the least of the states below y.
 -- The measure is what is left of the states.
+-- Assumes nothing.
 use mathlib.Core.Path.{◌≡◌, ap, ◌∙◌}
 use Prim.Native.Nat.{ℕ, ◌-◌, ◌≤◌}
 use Rattle.parsimony.specs.Least.{least}

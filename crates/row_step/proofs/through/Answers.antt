@@ -1,4 +1,5 @@
 -- `through` meets its contract: the sum of the cost and the entry, neither too large.
+-- Assumes nothing.
 use mathlib.Core.Path.{ap, ◌∙◌}
 use Prim.Native.Nat.{◌+◌}
 use lib.ListN.{get_or}

@@ -1,5 +1,6 @@
 -- `fill_rows` meets its contract. The loop's invariant: the rows of the nodes below v, and nothing else, are written.
 -- The measure is what is left of the nodes.
+-- Assumes nothing.
 use Prim.Native.Nat.{◌-◌, ◌≤◌}
 use Rattle.rows_up.proofs.RoomLaws.{RowsTo, room_none, room_more, room_all}
 use native.Mathlib.Omega.{arith}

@@ -1,5 +1,6 @@
 -- `node_row` meets its contract. What the table says of node v gives the place of its cell, of its handed row or of its
 -- children's rows, and the step that is called writes the node's row.
+-- Assumes nothing.
 use Rattle.std.proofs.Common.{◌≡◌, ℕ, ◌+◌, ◌*◌, ◌<◌, ◌≤◌, length, sym, ap, ◌∙◌, arith}
 use Rattle.parsimony.specs.Table.{symbol, leaf}
 use Rattle.parsimony.proofs.ColumnLaws.{cell_place}

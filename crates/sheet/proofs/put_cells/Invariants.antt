@@ -1,5 +1,6 @@
 -- `put_cells` meets its contract. The invariant: the cells of the rows below r are put.
 -- The measure is the number of rows left.
+-- Assumes nothing.
 use Rattle.sheet.specs.Cells.{Filled}
 use Prim.Native.Nat.{◌≤◌, ◌-◌}
 use Rattle.sheet.proofs.put_cells.Given as goal

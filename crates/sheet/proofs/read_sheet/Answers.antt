@@ -1,4 +1,5 @@
 -- `read_sheet` meets its contract, case by case.
+-- Assumes nothing.
 use Rattle.sheet.proofs.ReadSteps.{
   sections_few,
   sections_line,

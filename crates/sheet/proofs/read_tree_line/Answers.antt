@@ -1,7 +1,9 @@
 -- `read_tree_line` meets its contract, case by case.
+-- Assumes nothing.
 use Rattle.sheet_lines.proofs.LineLaws.{line_read}
 use native.Mathlib.Numerals.{add-one-le}
 use native.Mathlib.Nat.{lt_of_le_of_lt}
+use native.Mathlib.Omega.{arith}
 use Rattle.sheet.proofs.ReadSteps.{line_tree_lem, line_no_tree, no_line, no_tree_lem, more_after, whole_line}
 use mathlib.Core.Path.{sym, ◌∙◌}
 use Rattle.sheet.proofs.read_tree_line.Goals as goal
@@ -29,4 +31,4 @@ returns-then-end-sheet c =
 pub returns : goal.returns
 returns c =
     whole_line _ _ _ _ _ _ _ _ (sym c.line_end.ensures ∙ c.in-At.is) _ _
-    (line_tree_lem _ _ c.tree_line.ensures c.in-Tree.is) c.if-end-sheet.false
+    (line_tree_lem _ _ c.tree_line.ensures c.in-Tree.is) (omega arith)

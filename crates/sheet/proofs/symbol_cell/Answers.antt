@@ -1,4 +1,5 @@
 -- `symbol_cell` meets its contract.
+-- Assumes nothing.
 use Rattle.sheet.proofs.CellSteps.{set_listed, set_unlisted}
 use mathlib.Core.Path.{sym, ◌∙◌}
 use Rattle.sheet.proofs.symbol_cell.Goals as goal

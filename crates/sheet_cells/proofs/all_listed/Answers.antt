@@ -1,5 +1,6 @@
 -- `all_listed` meets its contract. The invariant: the bytes from i on decide.
 -- The measure is what is left of the text.
+-- Assumes nothing.
 use mathlib.Core.Path.{◌≡◌, refl, ◌∙◌}
 use Prim.Native.Nat.{◌-◌}
 use Rattle.sheet_lines.proofs.ByteLaws.{test_yes, test_no, every_on, every_off, every_end}

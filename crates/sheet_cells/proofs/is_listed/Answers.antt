@@ -1,4 +1,5 @@
 -- `is_listed` meets its contract: the table answers with states or with no symbol.
+-- Assumes nothing.
 use mathlib.Core.Path.{sym, ap, ◌∙◌}
 use Rattle.sheet_cells.specs.Cells.{is_states}
 use Rattle.sheet_cells.proofs.CellSteps.{listed_by}

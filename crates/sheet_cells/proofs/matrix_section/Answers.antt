@@ -1,4 +1,5 @@
 -- `matrix_section` meets its contract: the count line, and then a row for each name.
+-- Assumes nothing.
 use mathlib.Core.Path.{sym, ◌∙◌}
 use Rattle.sheet_lines.specs.Bytes.{bytes}
 use Rattle.sheet_cells.proofs.CellSteps.{matrix_no_count, matrix_fault, matrix_whole}

@@ -1,4 +1,5 @@
 -- `read_row` meets its contract: no line, or the row of the line.
+-- Assumes nothing.
 use mathlib.Core.Path.{sym, ◌∙◌}
 use Rattle.sheet_lines.proofs.LineLaws.{line_read}
 use Rattle.sheet_lines.specs.Section.{placed}

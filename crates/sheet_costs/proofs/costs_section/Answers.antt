@@ -1,4 +1,5 @@
 -- `costs_section` meets its contract: the count line, and then the table.
+-- Assumes nothing.
 use mathlib.Core.Path.{sym, ◌∙◌}
 use Rattle.sheet_lines.proofs.CountingLaws.{counting_none, counting_some}
 use Rattle.sheet_costs.specs.Costs.{costs_of}

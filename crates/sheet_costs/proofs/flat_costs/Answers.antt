@@ -1,4 +1,5 @@
 -- `flat_costs` meets its contract, entry by entry.
+-- Assumes nothing.
 use Rattle.sheet_costs.proofs.FlatLaws.{sixteen, flat_list}
 use Rattle.sheet_costs.proofs.flat_costs.Goals as goal
 

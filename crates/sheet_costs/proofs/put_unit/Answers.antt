@@ -1,4 +1,5 @@
 -- `put_unit` meets its contract.
+-- Assumes nothing.
 use Rattle.sheet_costs.proofs.CostSteps.{unit_written}
 use Rattle.sheet_costs.proofs.put_unit.Goals as goal
 

@@ -1,4 +1,5 @@
 -- `read_cost_count` meets its contract, by the number on the count line.
+-- Assumes nothing.
 use mathlib.Core.Path.{sym, ◌∙◌}
 use Rattle.sheet_lines.specs.Bytes.{bytes}
 use Rattle.sheet_costs.proofs.CostSteps.{cost_count_none, cost_count_zero, cost_count_four, cost_count_other}

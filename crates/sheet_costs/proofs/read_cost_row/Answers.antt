@@ -1,4 +1,5 @@
 -- `read_cost_row` meets its contract, number by number, and then by the one on the diagonal.
+-- Assumes nothing.
 use mathlib.Core.Path.{sym, ◌∙◌}
 use borrow.Author.Tests.{eq-eqb, ne_eqb}
 use Rattle.sheet_costs.specs.Costs.{cost_item, cost_row_of}

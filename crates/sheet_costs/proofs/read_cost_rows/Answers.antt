@@ -1,5 +1,6 @@
 -- `read_cost_rows` meets its contract. The invariant: x rows are read, and stand in the table.
 -- The measure is the number of rows left.
+-- Assumes nothing.
 use mathlib.Core.Path.{sym, ap, ◌∙◌}
 use Prim.Native.Nat.{◌-◌}
 use native.Mathlib.Omega.{arith}

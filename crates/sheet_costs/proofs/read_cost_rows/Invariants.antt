@@ -1,5 +1,6 @@
 -- `read_cost_rows` meets its contract. The invariant: x rows are read, and stand in the table.
 -- The measure is the number of rows left.
+-- Assumes nothing.
 use Prim.Native.Nat.{◌-◌}
 use Rattle.sheet_lines.proofs.Filling.{Going, going_start, going_on, going_stop, going_end, going_taken}
 use Rattle.sheet_costs.specs.Costs.{cost_item, cost_judge}

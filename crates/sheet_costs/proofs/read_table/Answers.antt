@@ -1,4 +1,5 @@
 -- `read_table` meets its contract, by the count.
+-- Assumes nothing.
 use Rattle.sheet_costs.proofs.CostSteps.{table_none, table_four}
 use Rattle.sheet_costs.proofs.read_table.Goals as goal
 

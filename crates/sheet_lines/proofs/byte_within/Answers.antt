@@ -1,4 +1,5 @@
 -- `byte_within` meets its contract, range by range.
+-- Assumes nothing.
 use Rattle.sheet_lines.proofs.ByteLaws.{within_low, within_high, within_yes}
 use Rattle.sheet_lines.proofs.byte_within.Goals as goal
 

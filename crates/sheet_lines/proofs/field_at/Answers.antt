@@ -1,4 +1,5 @@
 -- `field_at` meets its contract, by the number and the byte after it.
+-- Assumes nothing.
 use mathlib.Core.Path.{sym, ◌∙◌}
 use Rattle.sheet_lines.proofs.NumberSteps.{field_none, field_past, field_other, field_whole}
 use Rattle.sheet_lines.proofs.field_at.Goals as goal

@@ -1,6 +1,7 @@
 -- `line_end` meets its contract.
 -- The invariant: the line from i on ends where the line from the start on ends.
 -- The measure is what is left of the sheet.
+-- Assumes nothing.
 use mathlib.Core.Path.{◌≡◌, refl, ◌∙◌}
 use Prim.Native.Nat.{◌-◌}
 use lib.ListN.{length}

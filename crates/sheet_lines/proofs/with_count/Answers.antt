@@ -1,4 +1,5 @@
 -- `with_count` meets its contract, case by case.
+-- Assumes nothing.
 use Rattle.sheet_lines.specs.Counting.{with_count}
 use Rattle.sheet_lines.proofs.with_count.Goals as goal
 

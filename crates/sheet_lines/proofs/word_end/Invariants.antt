@@ -1,6 +1,7 @@
 -- `word_end` meets its contract.
 -- The invariant: the rest of the word from i on ends where the whole word does.
 -- The measure is what is left of the word.
+-- Assumes nothing.
 use mathlib.Core.Path.{◌≡◌, refl, ◌∙◌}
 use Prim.Native.Nat.{◌-◌}
 use lib.ListN.{length, drop}

@@ -1,4 +1,5 @@
 -- `is_name` meets its contract, by the length of the text and then its bytes.
+-- Assumes nothing.
 use mathlib.Core.Path.{◌∙◌}
 use Rattle.sheet_names.proofs.NameSteps.{name_short, name_long, name_fits}
 use Rattle.sheet_names.proofs.is_name.Goals as goal

@@ -1,5 +1,6 @@
 -- `is_new` meets its contract. The invariant: the names from i on decide.
 -- The measure is the number of names left.
+-- Assumes nothing.
 use mathlib.Core.Path.{◌≡◌, refl, sym, ◌∙◌}
 use Prim.Native.Nat.{◌-◌}
 use Rattle.sheet_lines.specs.Bytes.{text_of}

@@ -1,4 +1,5 @@
 -- `name_byte` meets its contract, test by test.
+-- Assumes nothing.
 use mathlib.Core.Path.{sym, ◌∙◌}
 use borrow.Author.Tests.{eq-eqb, ne_eqb}
 use Rattle.sheet_names.specs.Name.{is_name_byte}

@@ -1,5 +1,6 @@
 -- `name_bytes` meets its contract. The invariant: the bytes from i on decide.
 -- The measure is what is left of the text.
+-- Assumes nothing.
 use mathlib.Core.Path.{◌≡◌, refl, ◌∙◌}
 use Prim.Native.Nat.{◌-◌}
 use Rattle.sheet_lines.specs.Bytes.{text_of, every}

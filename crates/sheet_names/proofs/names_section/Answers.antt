@@ -1,4 +1,5 @@
 -- `names_section` meets its contract: the count line, and then as many names.
+-- Assumes nothing.
 use mathlib.Core.Path.{sym, ◌∙◌}
 use native.Mathlib.Omega.{arith}
 use Rattle.sheet_lines.proofs.CountLaws.{count_read}

@@ -1,4 +1,5 @@
 -- `read_name` meets its contract, in the order of the tests on one line.
+-- Assumes nothing.
 use mathlib.Core.Path.{sym, ◌∙◌}
 use native.Mathlib.Omega.{arith}
 use Rattle.sheet_lines.proofs.ByteLaws.{test_yes, test_no}

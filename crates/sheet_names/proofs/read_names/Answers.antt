@@ -1,5 +1,6 @@
 -- `read_names` meets its contract. The invariant: i names are read, and their places stand in the list.
 -- The measure is the number of names left.
+-- Assumes nothing.
 use Prim.Native.Nat.{◌-◌}
 use Rattle.sheet_lines.proofs.Filling.{Going, going_start, going_on, going_stop, going_end}
 use Rattle.sheet_lines.proofs.SectionSteps.{placed_wrong, placed_read}

@@ -1,4 +1,5 @@
 -- `read_from_columns` meets its contract: the cells, and then the rest.
+-- Assumes nothing.
 use mathlib.Core.Path.{sym, ◌∙◌}
 use Rattle.sheet_sections.proofs.SheetSteps.{rest_no_cells, rest_cells}
 use Rattle.sheet_sections.proofs.read_from_columns.Goals as goal

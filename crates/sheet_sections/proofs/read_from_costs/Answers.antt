@@ -1,4 +1,5 @@
 -- `read_from_costs` meets its contract: the costs, and then the count of trees.
+-- Assumes nothing.
 use mathlib.Core.Path.{sym, ◌∙◌}
 use native.Mathlib.Omega.{arith}
 use Rattle.sheet_lines.specs.Bytes.{bytes}

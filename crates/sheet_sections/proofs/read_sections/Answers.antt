@@ -1,4 +1,5 @@
 -- `read_sections` meets its contract: the names, and then the rest.
+-- Assumes nothing.
 use Rattle.sheet_names.proofs.NamesLaws.{names_few}
 use Rattle.sheet_sections.proofs.SheetSteps.{sheet_no_names, sheet_names}
 use Rattle.sheet_sections.proofs.read_sections.Goals as goal

@@ -1,4 +1,5 @@
 -- `symbol_of` meets its contract: the table has the code list's set at each byte.
+-- Assumes nothing.
 use mathlib.Core.Path.{◌∙◌}
 use Rattle.sheet_symbols.proofs.SymbolLaws.{symbol_none, symbol_some}
 use Rattle.sheet_symbols.proofs.Table.{table}

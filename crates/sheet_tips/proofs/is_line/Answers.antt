@@ -1,4 +1,5 @@
 -- `is_line` meets its contract.
+-- Assumes nothing.
 use Rattle.sheet_tips.proofs.TokenLaws.{line_not, line_end_lem}
 use mathlib.Core.Path.{sym, ◌∙◌}
 use Rattle.sheet_tips.proofs.is_line.Goals as goal

@@ -1,4 +1,5 @@
 -- `read_tip` meets its contract, case by case.
+-- Assumes nothing.
 use Rattle.sheet_tips.proofs.TipSteps.{tip_room, name_empty, name_unknown, name_again, name_got}
 use Rattle.sheet_tips.proofs.TokenLaws.{row_below, token_from, token_within}
 use lib.ListN.{length}

@@ -1,5 +1,6 @@
 -- `token_end` meets its contract. The invariant: the name ends where the bytes from i on end it.
 -- The measure is what is left of the sheet.
+-- Assumes nothing.
 use Rattle.sheet_lines.proofs.ByteLaws.{test_yes, test_no}
 use Rattle.sheet_tips.proofs.TokenLaws.{token_more, token_stop, token_end_lem}
 use Prim.Native.Nat.{◌-◌}

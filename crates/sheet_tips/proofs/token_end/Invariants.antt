@@ -1,5 +1,6 @@
 -- `token_end` meets its contract. The invariant: the name ends where the bytes from i on end it.
 -- The measure is what is left of the sheet.
+-- Assumes nothing.
 use Rattle.sheet_tips.specs.Token.{token_end}
 use lib.ListN.{length}
 use Prim.Native.Nat.{◌-◌}

@@ -1,4 +1,5 @@
 -- The readers of a tree and of a pair meet their contracts.
+-- Assumes nothing.
 use Rattle.std.proofs.Common.{refl, sym, ◌∙◌, arith}
 use Rattle.sheet_tree.proofs.PairSteps.{
   byte_inside,

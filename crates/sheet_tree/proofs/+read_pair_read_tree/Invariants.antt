@@ -1,4 +1,5 @@
 -- The readers of a tree and of a pair end: the measure is twice the depth left, and one more for a tree.
+-- Assumes nothing.
 use Rattle.std.proofs.Common.{◌+◌, ◌*◌}
 use Rattle.sheet_tree.proofs.+read_pair_read_tree.Given as goal
 

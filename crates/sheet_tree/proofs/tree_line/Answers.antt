@@ -1,4 +1,5 @@
 -- `tree_line` meets its contract, case by case.
+-- Assumes nothing.
 use Rattle.sheet_tips.specs.Marks.{unmarked}
 use Rattle.sheet_tree.proofs.LineSteps.{
   start_ready,

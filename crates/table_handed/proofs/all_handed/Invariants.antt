@@ -1,5 +1,6 @@
 -- `all_handed` meets its contract. The loop's invariant: every entry before i is at most 1,020,978 or barred. The
 -- measure is what is left of the entries.
+-- Assumes nothing.
 use mathlib.Core.Logic.{◌⊎◌}
 use mathlib.Core.Path.{◌≡◌}
 use Prim.Native.Nat.{ℕ, ◌-◌, ◌<◌, ◌≤◌}

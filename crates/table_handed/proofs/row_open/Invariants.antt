@@ -1,5 +1,6 @@
 -- `row_open` meets its contract. The loop's invariant: every entry of the row before x is barred. The measure is what
 -- is left of the row.
+-- Assumes nothing.
 use mathlib.Core.Path.{◌≡◌}
 use Prim.Native.Nat.{ℕ, ◌+◌, ◌-◌, ◌<◌}
 use lib.ListN.{get_or}

@@ -1,5 +1,6 @@
 -- `rows_open` meets its contract. The loop's invariant: each row before i has an entry that is not barred. The measure
 -- is the number of rows left.
+-- Assumes nothing.
 use Prim.Native.Nat.{ℕ, ◌+◌, ◌*◌, ◌-◌, ◌<◌, ◌≤◌}
 use borrow.Author.Count.{below_none, below_more}
 use Rattle.parsimony.proofs.TellsLaws.{unless_yes, unless_no, all_no, all_yes}

@@ -1,5 +1,6 @@
 -- `rows_open` meets its contract. The loop's invariant: each row before i has an entry that is not barred. The measure
 -- is the number of rows left.
+-- Assumes nothing.
 use mathlib.Core.Path.{◌≡◌}
 use Prim.Native.Nat.{ℕ, ◌+◌, ◌*◌, ◌-◌, ◌<◌, ◌≤◌}
 use lib.ListN.{length, get_or}

@@ -1,4 +1,5 @@
 -- `matrix_tests` meets its contract: the rules hold one after the other, up to the first that does not.
+-- Assumes nothing.
 use mathlib.Core.Path.{subst}
 use lib.ListN.{length}
 use Rattle.parsimony.proofs.TellsLaws.{unless_yes, unless_no}

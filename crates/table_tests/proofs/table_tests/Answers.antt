@@ -1,4 +1,5 @@
 -- `table_tests` meets its contract: an earlier refusal stays, else the handed rows decide.
+-- Assumes nothing.
 use mathlib.Core.Path.{subst}
 use lib.ListN.{length}
 use Rattle.parsimony.proofs.TellsLaws.{unless_yes, unless_no}

@@ -1,5 +1,6 @@
 -- `check_tree` meets its contract: the walk starts from the counts of all tips and from marks that are all 0,
 -- and the uses by the nodes after it are added to its marks before an unused node is looked for.
+-- Assumes nothing.
 use Rattle.tree_uses.proofs.MarkLaws.{counted_zeros}
 use Rattle.tree_test.proofs.FoundLaws.{found_none, found_fault}
 use Rattle.tree_test.proofs.VisitLaws.{surveyed, marked_none}

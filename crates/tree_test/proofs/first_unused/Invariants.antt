@@ -1,5 +1,6 @@
 -- `first_unused` meets its contract. The invariant: each node below u that is not the last has a use. The measure is
 -- what is left below the limit.
+-- Assumes nothing.
 use Prim.Native.Nat.{ℕ, suc, ◌≤◌, ◌<◌, ◌-◌}
 use lib.ListN.{get_or}
 use Rattle.tree_test.proofs.first_unused.Given as goal

@@ -1,4 +1,5 @@
 -- `visit` meets its contract: in each arm the node is known, and what it uses is taken if it is free.
+-- Assumes nothing.
 use mathlib.Core.Path.{ap, sym, ◌∙◌}
 use Rattle.parsimony.specs.Table.{symbol, handed}
 use Rattle.tree_nodes.specs.NodeOf.{node_of}

@@ -1,5 +1,6 @@
 -- `walk` meets its contract. The invariant: the marks count the uses by the nodes below v, the entries of which keep
 -- their rules. The measure is what is left of the nodes.
+-- Assumes nothing.
 use Prim.Native.Nat.{ℕ, ◌≤◌, ◌<◌, ◌-◌}
 use lib.ListN.{length}
 use Rattle.parsimony.specs.Fault.{KeepsEntries}

@@ -1,4 +1,5 @@
 -- `add_use` meets its contract: a store at u adds one there, and past the entries nothing is to be added.
+-- Assumes nothing.
 use Rattle.tree_uses.proofs.MarkLaws.{raised_set, raised_out}
 use Rattle.tree_uses.proofs.add_use.Goals as goal
 

@@ -1,5 +1,6 @@
 -- `all_used` meets its contract. The loop's invariant: fewest is the lowest mark of the numbers below u.
 -- The measure is what is left of the numbers.
+-- Assumes nothing.
 use Prim.Native.Nat.{◌-◌, ◌≤◌}
 use lib.ListN.{get_or}
 use Rattle.parsimony.proofs.Extremes.{LowestSoFar, extreme_none, lowest_more}

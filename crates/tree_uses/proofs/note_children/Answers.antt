@@ -1,5 +1,6 @@
 -- `note_children` meets its contract. The invariant: the marks count the child uses of the nodes below v. The measure
 -- is what is left of the nodes.
+-- Assumes nothing.
 use Prim.Native.Nat.{◌≤◌, ◌-◌}
 use native.Mathlib.Omega.{arith}
 use Rattle.parsimony.specs.Table.{node_at, child_uses}

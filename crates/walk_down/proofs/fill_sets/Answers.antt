@@ -1,5 +1,6 @@
 -- `fill_sets` meets its contract. The loop's invariant: the root has its start, and the children of each node from v on
 -- have their sets. The measure is the number of nodes to go, v.
+-- Assumes nothing.
 use mathlib.Core.Path.{refl, ◌∙◌}
 use native.Mathlib.Omega.{arith}
 use Rattle.walk_down.proofs.DownSteps.{

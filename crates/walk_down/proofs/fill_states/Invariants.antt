@@ -1,5 +1,6 @@
 -- `fill_states` meets its contract. The loop's invariant: the root has its start, and the children of each node from v
 -- on have their states. The measure is the number of nodes to go, v.
+-- Assumes nothing.
 use Prim.Native.Nat.{◌≤◌}
 use lib.ListN.{length, length-set}
 use Rattle.parsimony.specs.Table.{kids_at}

@@ -1,4 +1,5 @@
 -- `row_column` meets its contract: the rows are the column's, and the root's is copied.
+-- Assumes nothing.
 use mathlib.Core.Path.{subst}
 use Rattle.parsimony.specs.Written.{Wrote}
 use Rattle.promises.proofs.RuleLaws.{hand_up_parts}

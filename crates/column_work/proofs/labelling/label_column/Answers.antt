@@ -1,4 +1,5 @@
 -- `label_column` meets its contract: the rows are the column's, and the states come down from the start.
+-- Assumes nothing.
 use Prim.Native.Nat.{◌*◌, ◌≤◌}
 use native.Mathlib.Nat.{le_refl}
 use lib.ListN.{length}

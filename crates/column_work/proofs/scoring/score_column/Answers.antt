@@ -1,4 +1,5 @@
 -- `score_column` meets its contract: the least entry of the root's row is the score.
+-- Assumes nothing.
 use mathlib.Core.Path.{◌∙◌}
 use Rattle.promises.proofs.Meaning.{score_right}
 use Rattle.promises.specs.Input.{Input, input}

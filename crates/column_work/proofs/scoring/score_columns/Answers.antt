@@ -1,5 +1,6 @@
 -- `score_columns` meets its contract. The invariant: the columns below j are scored, and the row room holds the last of
 -- them. The measure is what is left of the columns.
+-- Assumes nothing.
 use Prim.Native.Nat.{◌-◌, ◌≤◌}
 use Rattle.promises.proofs.RuleLaws.{score_parts}
 use Rattle.promises.specs.Input.{Input, input}

@@ -1,4 +1,5 @@
 -- `set_column` meets its contract: the rows are the column's, and the sets come down from the start.
+-- Assumes nothing.
 use Prim.Native.Nat.{◌*◌, ◌≤◌}
 use native.Mathlib.Nat.{le_refl}
 use lib.ListN.{length}

@@ -1,4 +1,5 @@
 -- `fill_column` meets its contract: the rows are the column's, and labels, sets and score are read off them.
+-- Assumes nothing.
 use mathlib.Core.Path.{◌∙◌}
 use Prim.Native.Nat.{◌*◌, ◌≤◌}
 use native.Mathlib.Nat.{le_refl}

@@ -1,4 +1,5 @@
 -- `column_line` meets its contract: the scorer's work is done, and its parts are put together.
+-- Assumes nothing.
 use mathlib.Core.List.{[]}
 use mathlib.Core.Path.{ap}
 use lib.ListN.{length}

@@ -1,4 +1,5 @@
 -- `put_field` meets its contract: the digits, and then the space.
+-- Assumes nothing.
 use native.Mathlib.Omega.{arith}
 use Rattle.report_lines.proofs.LineLaws.{field_length}
 use Rattle.report_lines.proofs.LineSteps.{put_space}

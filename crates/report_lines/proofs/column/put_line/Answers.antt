@@ -1,4 +1,5 @@
 -- `put_line` meets its contract: the five parts one after the other, each with room for those that follow.
+-- Assumes nothing.
 use native.Mathlib.Omega.{arith}
 use lib.ListN.{get_or}
 use Rattle.report_lines.proofs.LineLaws.{line_length}

@@ -1,4 +1,5 @@
 -- `number_line` meets its contract: the word and the number, and then the line end.
+-- Assumes nothing.
 use Rattle.report_text.proofs.PutLaws.{put_long, put_then}
 use Rattle.report_lines.specs.Frame.{number_line}
 use Rattle.report_lines.proofs.LineSteps.{starts}

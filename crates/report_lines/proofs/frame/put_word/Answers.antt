@@ -1,4 +1,5 @@
 -- `put_word` meets its contract: the word, and then the number.
+-- Assumes nothing.
 use native.Mathlib.Omega.{arith}
 use Rattle.report_lines.proofs.LineLaws.{word_length}
 use Rattle.report_lines.proofs.LineSteps.{put_word_number}

@@ -1,4 +1,5 @@
 -- `refused_line` meets its contract: the word and the number, a space, the line, and the line end.
+-- Assumes nothing.
 use Rattle.report_text.proofs.PutLaws.{put_long, put_then}
 use Rattle.report_lines.specs.Frame.{refused_line}
 use Rattle.report_lines.proofs.LineSteps.{starts}

@@ -1,4 +1,5 @@
 -- `letter` meets its contract: one state after the other.
+-- Assumes nothing.
 use Rattle.report_marks.proofs.LetterLaws.{letter_0, letter_1, letter_2, letter_last}
 use Rattle.report_marks.proofs.letters.letter.Goals as goal
 

@@ -1,4 +1,5 @@
 -- `one_state` meets its contract: the set's count is one, or not.
+-- Assumes nothing.
 use native.Mathlib.Omega.{arith}
 use Rattle.parsimony.specs.Limits.{cell_bits}
 use Rattle.report_marks.proofs.OneStateLaws.{single_yes, single_no}

@@ -1,4 +1,5 @@
 -- `one_states` meets its contract. The first v sets are counted; the measure is the number of sets left.
+-- Assumes nothing.
 use Prim.Native.Nat.{◌-◌}
 use native.Mathlib.Omega.{arith}
 use lib.ListN.{get_or}

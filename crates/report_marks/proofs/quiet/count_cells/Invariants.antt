@@ -1,4 +1,5 @@
 -- `count_cells` meets its contract. The first i cells are counted; the measure is the number of cells left.
+-- Assumes nothing.
 use Prim.Native.Nat.{◌-◌}
 use lib.ListN.{length}
 use Rattle.report_marks.proofs.QuietSteps.{Tallied, tallied_none, tallied_more, tallied_all}

@@ -1,4 +1,5 @@
 -- `quiet_mark` meets its contract: the bases that occur often are fewer than two, or not.
+-- Assumes nothing.
 use native.Mathlib.Omega.{arith}
 use Rattle.report_marks.proofs.QuietSteps.{quiet_yes, quiet_no}
 use Rattle.report_marks.proofs.quiet.quiet_mark.Goals as goal

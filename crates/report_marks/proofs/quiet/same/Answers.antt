@@ -1,4 +1,5 @@
 -- `same` meets its contract: the two sides of its test.
+-- Assumes nothing.
 use mathlib.Core.Path.{sym}
 use native.Mathlib.Omega.{arith}
 use Rattle.parsimony.proofs.Order.{at_same, at_other}

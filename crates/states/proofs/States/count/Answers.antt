@@ -1,4 +1,5 @@
 -- The ones of a cell are its states.
+-- Assumes nothing.
 use Rattle.std.proofs.Common.{sym, arith}
 use Rattle.parsimony.proofs.StateCountLaws.{size_ones}
 use Rattle.parsimony.specs.Limits.{cell_bits}

@@ -1,4 +1,5 @@
 -- The bit that is shifted down tells the member.
+-- Assumes nothing.
 use Rattle.states.proofs.Words.{shifted_tells}
 use Rattle.states.proofs.States.has.Goals as goal
 

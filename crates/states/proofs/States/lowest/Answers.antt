@@ -1,4 +1,5 @@
 -- The lowest member is the number of trailing zeros.
+-- Assumes nothing.
 use Rattle.std.proofs.Common.{arith}
 use Rattle.parsimony.proofs.StateCountLaws.{lowest_first}
 use Rattle.parsimony.specs.Limits.{cell_bits}

@@ -1,4 +1,5 @@
 -- A one shifted by the state is its set.
+-- Assumes nothing.
 use Rattle.std.proofs.Common.{arith}
 use Rattle.states.proofs.Words.{shifted_one}
 use Rattle.parsimony.specs.Limits.{cell_bits}

@@ -1,5 +1,6 @@
 -- `diagonal_free` meets its contract. The loop's invariant: every diagonal entry before state is 0.
 -- The measure is the number of states left.
+-- Assumes nothing.
 use mathlib.Core.Path.{◌≡◌}
 use Prim.Native.Nat.{ℕ, ◌+◌, ◌*◌, ◌-◌, ◌<◌}
 use lib.ListN.{length, get_or}

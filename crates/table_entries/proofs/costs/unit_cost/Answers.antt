@@ -1,4 +1,5 @@
 -- `unit_cost` meets its contract. The test of the two states picks the cost.
+-- Assumes nothing.
 use mathlib.Core.Path.{sym}
 use borrow.Author.Tests.{eq-eqb, ne_eqb}
 use Rattle.parsimony.proofs.Order.{pick_true, pick_false}

@@ -1,5 +1,6 @@
 -- `unit_costs` meets its contract. The loop's invariant: every row before x is of unit costs. The
 -- measure is the number of rows left.
+-- Assumes nothing.
 use mathlib.Core.Path.{◌≡◌}
 use Prim.Native.Nat.{ℕ, ◌-◌, ◌<◌}
 use lib.Dec.{eqb}

@@ -1,5 +1,6 @@
 -- `unit_row` meets its contract. The loop's invariant: the row is of unit costs before y. The measure
 -- is what is left of the row.
+-- Assumes nothing.
 use mathlib.Core.Path.{◌≡◌, sym, ◌∙◌}
 use Prim.Native.Nat.{ℕ, ◌+◌, ◌*◌, ◌-◌, ◌<◌}
 use borrow.Author.Count.{below_none, below_more}

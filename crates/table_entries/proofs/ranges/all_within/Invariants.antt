@@ -1,5 +1,6 @@
 -- `all_within` meets its contract. The loop's invariant: lowest and highest are those of the numbers before i.
 -- The measure is what is left of the list.
+-- Assumes nothing.
 use Prim.Native.Nat.{◌-◌, ◌≤◌}
 use lib.ListN.{length, get_or}
 use Rattle.parsimony.proofs.Extremes.{LowestSoFar, HighestSoFar, extreme_none, lowest_more, highest_more}

@@ -1,4 +1,5 @@
 -- `node_at` meets its contract: the tests are those of the definition, case by case.
+-- Assumes nothing.
 use mathlib.Core.Path.{refl, ap, sym, ◌∙◌}
 use native.Mathlib.Omega.{arith}
 use Rattle.parsimony.specs.Table.{symbol, handed, leaf}

@@ -1,5 +1,6 @@
 -- `tips_of` meets its contract. The invariant: the two counts are those of the tips among the nodes below v. The
 -- measure is what is left of the nodes.
+-- Assumes nothing.
 use mathlib.Core.Path.{◌≡◌, sym, ap, ◌∙◌}
 use Prim.Native.Nat.{◌≤◌, ◌-◌}
 use lib.ListN.{length}

@@ -1,4 +1,5 @@
 -- `unit` meets its contract: it is the definition, case by case.
+-- Assumes nothing.
 use mathlib.Core.Path.{sym}
 use Rattle.parsimony.proofs.Order.{pick_true, pick_false}
 use Rattle.tree_nodes.proofs.nodes.unit.Goals as goal

@@ -1,4 +1,5 @@
 -- `child_state` meets its contract.
+-- Assumes nothing.
 use mathlib.Core.Path.{◌∙◌}
 use Rattle.walk_down.proofs.PassSteps.{chosen_low}
 use Rattle.walk_down.specs.Pass.{chosen}

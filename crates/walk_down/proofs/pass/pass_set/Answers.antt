@@ -1,4 +1,5 @@
 -- `pass_set` meets its contract: a tip leaves the list as it is, an inner node stores its children's values.
+-- Assumes nothing.
 use Rattle.std.proofs.Common.{List, ◌≡◌, ℕ, ◌<◌, length, length-set, arith}
 use Rattle.parsimony.specs.Table.{Legal, inner, node_at}
 use Rattle.parsimony.proofs.LegalLaws.{legal_below}
