@@ -8,7 +8,7 @@ use Rattle.parsimony.specs.Allowed.{CellRules, HandedRules, most_handed}
 use Rattle.parsimony.specs.Barred.{barred}
 use Rattle.parsimony.specs.Column.{column_of, cell_at, handed_at, cell_entry, tip_entry}
 use Rattle.parsimony.specs.Row.{row}
-use Rattle.parsimony.specs.Table.{symbol, handed, Node, leaf, inner, kids_of, tips}
+use Rattle.parsimony.specs.Table.{symbol, handed, Node, leaf, inner, kids_of}
 use Rattle.parsimony.specs.Tree.{tip}
 use Rattle.parsimony.proofs.ColumnLaws.{place}
 use Rattle.parsimony.proofs.RowLaws.{row_tip}

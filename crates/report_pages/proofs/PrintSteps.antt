@@ -2,7 +2,7 @@
 -- Assumes nothing.
 use mathlib.Core.List.{List, []}
 use mathlib.Core.Path.{◌≡◌, ap, sym, ◌∙◌, subst}
-use Prim.Native.Nat.{ℕ, ◌+◌, ◌-◌, ◌<◌, ◌≤◌}
+use Prim.Native.Nat.{ℕ, ◌+◌, ◌<◌, ◌≤◌}
 use native.Mathlib.Omega.{arith}
 use lib.ListN.{length, get_or, take}
 use lib.Seq.{length-take-le, get_or-take, ext_get_or}
@@ -11,7 +11,7 @@ use Rattle.parsimony.specs.Barred.{barred}
 use Rattle.parsimony.proofs.FilledLaws.{list_long, list_at}
 use Rattle.parsimony.proofs.Scoring.{score_open}
 use Rattle.promises.specs.CallRules.{Allowed}
-use Rattle.promises.specs.Input.{Input, input, nodes, column}
+use Rattle.promises.specs.Input.{Input, input, column}
 use Rattle.promises.proofs.TableLaws.{table_sound}
 use Rattle.sheet_cells.specs.IsRow.{row_at}
 use Rattle.sheet_tips.specs.Nodes.{lefts, rights}

@@ -9,7 +9,7 @@ use borrow.Author.Tests.{eq-eqb}
 use lib.Dec.{eqb}
 use lib.ListN.{length, get_or}
 use Rattle.parsimony.specs.Sum.{sum}
-use Rattle.parsimony.specs.Test.{at, pick, both}
+use Rattle.parsimony.specs.Test.{pick, both}
 use Rattle.parsimony.proofs.Order.{by_lt, pick_true, at_other}
 use Rattle.parsimony.proofs.Sums.{sum_same}
 use Rattle.parsimony.proofs.TipLaws.{sum_ones}

@@ -1,9 +1,8 @@
 -- `members_open` meets its contract. The loop's invariant: no member below x is barred at the root.
 -- The measure is what is left of the states.
 -- Assumes nothing.
-use Prim.Native.Nat.{◌-◌, ◌≤◌}
-use Rattle.call_starts.proofs.StartLaws.{OpenBelow, open_none, open_more, open_other, open_all, open_not}
-use Rattle.parsimony.proofs.TellsLaws.{told_yes, told_no, unless_yes, unless_no}
+use Rattle.call_starts.proofs.StartLaws.{open_none, open_more, open_other, open_all}
+use Rattle.parsimony.proofs.TellsLaws.{told_no, unless_yes}
 use native.Mathlib.Omega.{arith}
 use Rattle.call_starts.proofs.members_open.Goals.{then-has+else-not-root_open, else-has}
 use Rattle.call_starts.proofs.members_open.Goals as goal

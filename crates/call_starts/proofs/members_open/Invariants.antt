@@ -2,7 +2,7 @@
 -- The measure is what is left of the states.
 -- Assumes nothing.
 use Prim.Native.Nat.{◌-◌, ◌≤◌}
-use Rattle.call_starts.proofs.StartLaws.{OpenBelow, open_none, open_more, open_other, open_all, open_not}
+use Rattle.call_starts.proofs.StartLaws.{OpenBelow}
 use Rattle.promises.specs.Input.{input}
 use Rattle.call_starts.proofs.members_open.Given as goal
 

@@ -2,15 +2,15 @@
 -- state below x, and from is the place of row x of the costs. The measure is what is left of the states. Assumes
 -- nothing.
 -- Assumes nothing.
-use mathlib.Core.Path.{◌≡◌, sym, ap, ap₂, ◌∙◌, subst}
-use Prim.Native.Nat.{suc, ◌+◌, ◌-◌, ◌*◌, ◌≤◌}
+use mathlib.Core.Path.{◌≡◌, sym, ap, ap₂, ◌∙◌}
+use Prim.Native.Nat.{suc, ◌+◌, ◌*◌}
 use native.Mathlib.Nat.{zero-mul, suc-mul}
 use native.Mathlib.Numerals.{add-one}
 use native.Mathlib.Omega.{arith}
 use Rattle.parsimony.specs.StateSet.{union}
 use Rattle.states.specs.declared.States.{States}
 use Rattle.choice_steps.proofs.SetSteps.{under_none, under_more, under_other}
-use Rattle.choice_steps.specs.Ties.{reached_under, reached}
+use Rattle.choice_steps.specs.Ties.{reached}
 use Rattle.choice_steps.proofs.child_set.Goals.{then-has, else-has}
 use Rattle.choice_steps.proofs.child_set.Goals as goal
 

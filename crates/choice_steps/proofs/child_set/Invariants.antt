@@ -2,9 +2,9 @@
 -- state below x, and from is the place of row x of the costs. The measure is what is left of the states. Assumes
 -- nothing.
 -- Assumes nothing.
-use mathlib.Core.Path.{◌≡◌, sym, ap, ap₂, ◌∙◌, subst}
-use Prim.Native.Nat.{suc, ◌+◌, ◌-◌, ◌*◌, ◌≤◌}
-use Rattle.choice_steps.specs.Ties.{reached_under, reached}
+use mathlib.Core.Path.{◌≡◌}
+use Prim.Native.Nat.{◌-◌, ◌*◌, ◌≤◌}
+use Rattle.choice_steps.specs.Ties.{reached_under}
 use Rattle.choice_steps.proofs.child_set.Given as goal
 
 abbrev pub invariant-loop-x : goal.invariant-loop-x

@@ -2,10 +2,10 @@
 -- its sum. The measure is what is left of the states.
 -- Assumes nothing.
 use mathlib.Core.Path.{◌≡◌, sym, ap, ◌∙◌}
-use Prim.Native.Nat.{ℕ, ◌-◌, ◌*◌, ◌≤◌, ◌<◌}
+use Prim.Native.Nat.{ℕ, ◌*◌}
 use Rattle.parsimony.proofs.TieLaws.{in_use_low}
 use Rattle.parsimony.specs.Least.{low}
-use Rattle.row_step.proofs.LeastSteps.{Looked, looked_one, looked_lower, looked_other}
+use Rattle.row_step.proofs.LeastSteps.{looked_one, looked_lower, looked_other}
 use Rattle.row_step.specs.Lane.{lane}
 use native.Mathlib.Omega.{arith}
 use Rattle.choice_steps.proofs.choose.Goals.{then-sum-best, else-sum-best}

@@ -1,9 +1,9 @@
 -- `choose` meets its contract. The loop's invariant: of the states below y the lowest is the lowest least, and best is
 -- its sum. The measure is what is left of the states.
 -- Assumes nothing.
-use mathlib.Core.Path.{◌≡◌, sym, ap, ◌∙◌}
-use Prim.Native.Nat.{ℕ, ◌-◌, ◌*◌, ◌≤◌, ◌<◌}
-use Rattle.row_step.proofs.LeastSteps.{Looked, looked_one, looked_lower, looked_other}
+use mathlib.Core.Path.{◌≡◌}
+use Prim.Native.Nat.{◌-◌, ◌*◌, ◌≤◌, ◌<◌}
+use Rattle.row_step.proofs.LeastSteps.{Looked}
 use Rattle.row_step.specs.Lane.{lane}
 use Rattle.choice_steps.proofs.choose.Given as goal
 

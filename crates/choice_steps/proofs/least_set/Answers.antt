@@ -1,8 +1,7 @@
 -- `least_set` meets its contract. The loop's invariant: the set has the states below y at which the row is least.
 -- The measure is what is left of the states.
 -- Assumes nothing.
-use mathlib.Core.Path.{◌≡◌, sym, ap, ap₂, ◌∙◌}
-use Prim.Native.Nat.{◌-◌, ◌≤◌}
+use mathlib.Core.Path.{sym, ap, ap₂, ◌∙◌}
 use native.Mathlib.Omega.{arith}
 use Rattle.parsimony.specs.StateSet.{union}
 use Rattle.states.specs.declared.States.{States}

@@ -1,7 +1,7 @@
 -- `least_set` meets its contract. The loop's invariant: the set has the states below y at which the row is least.
 -- The measure is what is left of the states.
 -- Assumes nothing.
-use mathlib.Core.Path.{◌≡◌, sym, ap, ap₂, ◌∙◌}
+use mathlib.Core.Path.{◌≡◌}
 use Prim.Native.Nat.{◌-◌, ◌≤◌}
 use Rattle.choice_steps.specs.Ties.{least_set}
 use Rattle.choice_steps.proofs.least_set.Given as goal

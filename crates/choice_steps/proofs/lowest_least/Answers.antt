@@ -1,10 +1,10 @@
 -- `lowest_least` meets its contract. The loop's invariant: of the states below y the lowest is the lowest least.
 -- The measure is what is left of the states.
 -- Assumes nothing.
-use mathlib.Core.Path.{◌≡◌, sym, ap, ◌∙◌}
-use Prim.Native.Nat.{ℕ, ◌-◌, ◌≤◌, ◌<◌}
+use mathlib.Core.Path.{sym, ◌∙◌}
+use Prim.Native.Nat.{ℕ}
 use native.Mathlib.Omega.{arith}
-use Rattle.row_step.proofs.LeastSteps.{Looked, looked_one, looked_lower, looked_other}
+use Rattle.row_step.proofs.LeastSteps.{looked_one, looked_lower, looked_other}
 use Rattle.row_step.specs.Lane.{entry_at}
 use Rattle.choice_steps.proofs.lowest_least.Goals.{then-rows-at, else-rows-at}
 use Rattle.choice_steps.proofs.lowest_least.Goals as goal

@@ -1,8 +1,8 @@
 -- `lowest_least` meets its contract. The loop's invariant: of the states below y the lowest is the lowest least.
 -- The measure is what is left of the states.
 -- Assumes nothing.
-use Prim.Native.Nat.{ℕ, ◌-◌, ◌≤◌, ◌<◌}
-use Rattle.row_step.proofs.LeastSteps.{Looked, looked_one, looked_lower, looked_other}
+use Prim.Native.Nat.{◌-◌, ◌≤◌, ◌<◌}
+use Rattle.row_step.proofs.LeastSteps.{Looked}
 use Rattle.row_step.specs.Lane.{entry_at}
 use Rattle.choice_steps.proofs.lowest_least.Given as goal
 

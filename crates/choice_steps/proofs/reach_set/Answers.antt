@@ -1,8 +1,7 @@
 -- `reach_set` meets its contract. The loop's invariant: the set has the states below y that reach the least.
 -- The measure is what is left of the states.
 -- Assumes nothing.
-use mathlib.Core.Path.{ap₂, ◌≡◌, sym, ap, ◌∙◌}
-use Prim.Native.Nat.{◌-◌, ◌≤◌}
+use mathlib.Core.Path.{ap₂, sym, ap, ◌∙◌}
 use native.Mathlib.Omega.{arith}
 use Rattle.parsimony.specs.StateSet.{union}
 use Rattle.states.specs.declared.States.{States}

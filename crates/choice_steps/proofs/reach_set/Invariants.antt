@@ -1,7 +1,7 @@
 -- `reach_set` meets its contract. The loop's invariant: the set has the states below y that reach the least.
 -- The measure is what is left of the states.
 -- Assumes nothing.
-use mathlib.Core.Path.{ap₂, ◌≡◌, sym, ap, ◌∙◌}
+use mathlib.Core.Path.{◌≡◌}
 use Prim.Native.Nat.{◌-◌, ◌≤◌}
 use Rattle.choice_steps.specs.Ties.{reached}
 use Rattle.choice_steps.proofs.reach_set.Given as goal

@@ -2,18 +2,8 @@
 -- written, and the changes counted at these nodes are summed. The measure is what is left of the nodes. Assumes
 -- nothing.
 -- Assumes nothing.
-use Prim.Native.Nat.{◌+◌, ◌-◌, ◌≤◌}
-use Rattle.counts_up.proofs.CountSteps.{
-  SetsTo,
-  sets_none,
-  sets_more,
-  sets_all,
-  changes_to,
-  changes_none,
-  changes_more,
-  changes_most,
-  changes_root,
-}
+use Prim.Native.Nat.{◌+◌}
+use Rattle.counts_up.proofs.CountSteps.{sets_none, sets_more, sets_all, changes_none, changes_more, changes_most, changes_root}
 use native.Mathlib.Omega.{arith}
 use Rattle.counts_up.proofs.fill_prelims.Goals as goal
 

@@ -3,19 +3,9 @@
 -- nothing.
 -- Assumes nothing.
 use mathlib.Core.Path.{◌≡◌}
-use Prim.Native.Nat.{◌+◌, ◌-◌, ◌≤◌}
+use Prim.Native.Nat.{◌-◌, ◌≤◌}
 use lib.ListN.{length}
-use Rattle.counts_up.proofs.CountSteps.{
-  SetsTo,
-  sets_none,
-  sets_more,
-  sets_all,
-  changes_to,
-  changes_none,
-  changes_more,
-  changes_most,
-  changes_root,
-}
+use Rattle.counts_up.proofs.CountSteps.{SetsTo, changes_to}
 use Rattle.counts_up.proofs.fill_prelims.Given as goal
 
 abbrev pub invariant-loop-v : goal.invariant-loop-v

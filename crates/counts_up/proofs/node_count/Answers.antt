@@ -1,10 +1,8 @@
 -- `node_count` meets its contract. What the table says of node v gives the place of its cell or that its children are
 -- below it, and the equations of counting give its set and its change.
 -- Assumes nothing.
-use mathlib.Core.Path.{◌≡◌, ap, sym, ◌∙◌}
-use Prim.Native.Nat.{◌+◌, ◌*◌, ◌<◌}
+use mathlib.Core.Path.{ap, sym, ◌∙◌}
 use native.Mathlib.Omega.{arith}
-use lib.ListN.{length}
 use Rattle.parsimony.specs.Column.{cell_at}
 use Rattle.parsimony.specs.Table.{symbol, handed}
 use Rattle.parsimony.proofs.ColumnLaws.{cell_place}

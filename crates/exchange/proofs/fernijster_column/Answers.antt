@@ -1,9 +1,9 @@
 -- `fernijster_column` meets its contract, case by case: the fault of the sheet, no such column, the line.
 -- Assumes nothing.
 use Rattle.sheet.proofs.FaultLine.{judge_line}
-use Rattle.report_pages.proofs.ReadLaws.{read_long, read_printable, read_fault}
+use Rattle.report_pages.proofs.ReadLaws.{read_printable, read_fault}
 use Rattle.exchange.proofs.EntrySteps.{entry_fault, read_which}
-use mathlib.Core.Path.{refl, sym}
+use mathlib.Core.Path.{refl}
 use native.Mathlib.Omega.{arith}
 use Rattle.exchange.proofs.fernijster_column.Goals as goal
 

@@ -1,7 +1,7 @@
 -- `report` meets its contract: what the reader leaves may be printed.
 -- Assumes nothing.
-use Rattle.report_pages.proofs.ReadLaws.{read_long, read_from}
-use mathlib.Core.Path.{refl, sym}
+use Rattle.report_pages.proofs.ReadLaws.{read_from}
+use mathlib.Core.Path.{refl}
 use Rattle.report.proofs.report.Goals as goal
 
 pub write_report-requires-clause-printable_from : goal.write_report-requires-clause-printable_from

@@ -1,9 +1,8 @@
 -- `write_columns` meets its contract. The invariant: the rooms keep their length, and next is within the columns. The
 -- measure is the number of columns left.
 -- Assumes nothing.
-use Rattle.report_pages.proofs.PageSteps.{from_next, page_next}
-use Prim.Native.Nat.{◌≤◌, ◌-◌, ◌*◌}
-use mathlib.Core.Path.{◌≡◌, refl, sym, ◌∙◌}
+use Rattle.report_pages.proofs.PageSteps.{page_next}
+use mathlib.Core.Path.{◌∙◌}
 use Rattle.report.proofs.write_columns.Goals as goal
 
 pub loop-next-preserved : goal.loop-next-preserved

@@ -3,7 +3,7 @@
 -- Assumes nothing.
 use lib.ListN.{length}
 use Prim.Native.Nat.{◌≤◌, ◌-◌, ◌*◌}
-use mathlib.Core.Path.{◌≡◌, refl, sym, ◌∙◌}
+use mathlib.Core.Path.{◌≡◌}
 use Rattle.report.proofs.write_columns.Given as goal
 
 abbrev pub invariant-loop-next : goal.invariant-loop-next

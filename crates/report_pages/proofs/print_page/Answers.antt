@@ -1,19 +1,9 @@
 -- `print_page` meets its contract. The invariant: the lines of the columns up to next stand in the page. The measure is
 -- the number of columns left.
 -- Assumes nothing.
-use Prim.Native.Nat.{◌-◌}
-use mathlib.Core.Path.{◌≡◌, refl, ◌∙◌}
+use mathlib.Core.Path.{refl, ◌∙◌}
 use Rattle.report_pages.proofs.PrintSteps.{printable_nodes}
-use Rattle.report_pages.proofs.PageSteps.{
-  Turn,
-  turn_none,
-  turn_printable,
-  turn_score,
-  turn_more,
-  turn_full,
-  turn_end,
-  room_kept,
-}
+use Rattle.report_pages.proofs.PageSteps.{turn_none, turn_printable, turn_score, turn_more, room_kept}
 use native.Mathlib.Omega.{arith}
 use Rattle.report_pages.proofs.print_page.Goals as goal
 

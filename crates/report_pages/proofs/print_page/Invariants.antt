@@ -2,17 +2,8 @@
 -- the number of columns left.
 -- Assumes nothing.
 use Prim.Native.Nat.{◌-◌}
-use mathlib.Core.Path.{◌≡◌, refl, ◌∙◌}
-use Rattle.report_pages.proofs.PageSteps.{
-  Turn,
-  turn_none,
-  turn_printable,
-  turn_score,
-  turn_more,
-  turn_full,
-  turn_end,
-  room_kept,
-}
+use mathlib.Core.Path.{◌≡◌}
+use Rattle.report_pages.proofs.PageSteps.{Turn}
 use lib.ListN.{length}
 use Rattle.report_pages.proofs.print_page.Given as goal
 

@@ -9,7 +9,7 @@ use Rattle.report_pages.proofs.PrintSteps.{
   printable_allowed,
   printable_line,
 }
-use Rattle.sheet_lines.proofs.PartLaws.{part_first, part_size}
+use Rattle.sheet_lines.proofs.PartLaws.{part_first}
 use mathlib.Core.Path.{◌∙◌, sym, subst}
 use native.Mathlib.Omega.{arith}
 use Rattle.report_pages.proofs.sheet_line.Goals as goal

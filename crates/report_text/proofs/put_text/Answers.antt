@@ -1,7 +1,6 @@
 -- `put_text` meets its contract. The first i bytes of the text are put; the measure is the number of bytes left.
-use Prim.Native.Nat.{◌+◌, ◌-◌, ◌≤◌}
 use native.Mathlib.Omega.{arith}
-use Rattle.report_text.proofs.PutLaws.{put_all, put_long, put_next}
+use Rattle.report_text.proofs.PutLaws.{put_next}
 use Rattle.report_text.proofs.put_text.Goals as goal
 
 pub loop-i-preserved : goal.loop-i-preserved

@@ -1,6 +1,5 @@
 -- `states_down` meets its contract: the root's state is the one given or the lowest least, and the rest comes down.
 -- Assumes nothing.
-use Prim.Native.Nat.{◌-◌}
 use native.Mathlib.Omega.{arith}
 use Rattle.parsimony.proofs.LeastLaws.{low_within}
 use Rattle.parsimony.specs.Least.{low}

@@ -1,12 +1,12 @@
 -- `cell_row` meets its contract. The loop's invariant: the entries of the states below x are written.
 -- The measure is what is left of the states.
 -- Assumes nothing.
-use mathlib.Core.Path.{subst, ◌≡◌, sym}
-use Prim.Native.Nat.{◌+◌, ◌-◌, ◌≤◌}
+use mathlib.Core.Path.{subst, sym}
+use Prim.Native.Nat.{◌+◌}
 use native.Mathlib.Omega.{arith}
 use Rattle.parsimony.specs.Column.{cell_entry}
 use Rattle.row_step.proofs.CellLaws.{cell_yes, cell_no}
-use Rattle.parsimony.proofs.WrittenLaws.{wrote_none, wrote_more}
+use Rattle.parsimony.proofs.WrittenLaws.{wrote_more}
 use Rattle.parsimony.specs.Written.{Wrote}
 use Rattle.row_step.proofs.cell_row.Goals.{then-has, else-has}
 use Rattle.row_step.proofs.cell_row.Goals as goal

@@ -1,7 +1,7 @@
 -- `cell_row` meets its contract. The loop's invariant: the entries of the states below x are written.
 -- The measure is what is left of the states.
 -- Assumes nothing.
-use Prim.Native.Nat.{◌+◌, ◌-◌, ◌≤◌}
+use Prim.Native.Nat.{◌-◌, ◌≤◌}
 use Rattle.parsimony.specs.Column.{cell_entry}
 use Rattle.parsimony.specs.Written.{Wrote}
 use Rattle.row_step.proofs.cell_row.Given as goal

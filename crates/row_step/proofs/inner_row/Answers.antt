@@ -1,16 +1,16 @@
 -- `inner_row` meets its contract. The loop's invariant: the entries of the states below x are written, and from is the
 -- place of row x of the costs. The measure is what is left of the states.
 -- Assumes nothing.
-use mathlib.Core.Path.{subst, ◌≡◌, sym, ap, ◌∙◌}
-use Prim.Native.Nat.{suc, ◌+◌, ◌-◌, ◌*◌, ◌≤◌}
-use native.Mathlib.Nat.{zero-mul, suc-mul}
+use mathlib.Core.Path.{◌≡◌, ap, ◌∙◌}
+use Prim.Native.Nat.{suc, ◌+◌, ◌*◌}
+use native.Mathlib.Nat.{suc-mul}
 use native.Mathlib.Numerals.{add-one}
 use native.Mathlib.Omega.{arith}
 use Rattle.parsimony.specs.Barred.{plus}
 use Rattle.parsimony.specs.Least.{least}
-use Rattle.row_step.proofs.LaneLaws.{cheap_row, kept_calm, kept_join}
-use Rattle.parsimony.proofs.WrittenLaws.{wrote_none, wrote_more}
-use Rattle.row_step.specs.Lane.{Cheap, lane, join_at}
+use Rattle.row_step.proofs.LaneLaws.{kept_join}
+use Rattle.parsimony.proofs.WrittenLaws.{wrote_more}
+use Rattle.row_step.specs.Lane.{lane}
 use Rattle.row_step.proofs.inner_row.Goals as goal
 
 pub loop-x-preserved : goal.loop-x-preserved

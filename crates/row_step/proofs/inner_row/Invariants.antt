@@ -1,9 +1,9 @@
 -- `inner_row` meets its contract. The loop's invariant: the entries of the states below x are written, and from is the
 -- place of row x of the costs. The measure is what is left of the states.
 -- Assumes nothing.
-use mathlib.Core.Path.{subst, ◌≡◌, sym, ap, ◌∙◌}
-use Prim.Native.Nat.{suc, ◌+◌, ◌-◌, ◌*◌, ◌≤◌}
-use Rattle.row_step.specs.Lane.{Cheap, lane, join_at}
+use mathlib.Core.Path.{◌≡◌}
+use Prim.Native.Nat.{◌-◌, ◌*◌, ◌≤◌}
+use Rattle.row_step.specs.Lane.{join_at}
 use Rattle.parsimony.specs.Written.{Wrote}
 use Rattle.row_step.proofs.inner_row.Given as goal
 

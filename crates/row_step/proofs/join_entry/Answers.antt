@@ -1,7 +1,7 @@
 -- `join_entry` meets its contract: both least sums are small enough to be added.
 -- Assumes nothing.
 use mathlib.Core.Logic.{inl, inr, ⊎_elim}
-use mathlib.Core.Path.{ap₂, sym, ◌∙◌, subst}
+use mathlib.Core.Path.{sym, subst}
 use native.Mathlib.Omega.{arith}
 use Rattle.row_step.proofs.LaneLaws.{least_within}
 use Rattle.row_step.specs.Lane.{Within}

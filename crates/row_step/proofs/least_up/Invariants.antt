@@ -1,8 +1,8 @@
 -- `least_up` meets its contract. The loop's invariant: the best is the least of the states below y.
 -- The measure is what is left of the states.
 -- Assumes nothing.
-use mathlib.Core.Path.{◌≡◌, ap, ◌∙◌}
-use Prim.Native.Nat.{ℕ, ◌-◌, ◌≤◌}
+use mathlib.Core.Path.{◌≡◌}
+use Prim.Native.Nat.{◌-◌, ◌≤◌}
 use Rattle.parsimony.specs.Least.{least}
 use Rattle.row_step.specs.Lane.{lane}
 use Rattle.row_step.proofs.least_up.Given as goal

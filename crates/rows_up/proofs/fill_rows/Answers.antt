@@ -1,8 +1,7 @@
 -- `fill_rows` meets its contract. The loop's invariant: the rows of the nodes below v, and nothing else, are written.
 -- The measure is what is left of the nodes.
 -- Assumes nothing.
-use Prim.Native.Nat.{◌-◌, ◌≤◌}
-use Rattle.rows_up.proofs.RoomLaws.{RowsTo, room_none, room_more, room_all}
+use Rattle.rows_up.proofs.RoomLaws.{room_more}
 use native.Mathlib.Omega.{arith}
 use Rattle.rows_up.proofs.fill_rows.Goals as goal
 

@@ -5,7 +5,7 @@ use Prim.Native.Nat.{◌-◌, ◌≤◌}
 use lib.ListN.{length}
 use Rattle.parsimony.specs.Row.{row}
 use Rattle.promises.specs.Input.{input, column}
-use Rattle.rows_up.proofs.RoomLaws.{RowsTo, room_none, room_more, room_all}
+use Rattle.rows_up.proofs.RoomLaws.{RowsTo}
 use Rattle.rows_up.proofs.fill_rows.Given as goal
 
 abbrev pub invariant-loop-v : goal.invariant-loop-v

@@ -1,8 +1,7 @@
 -- `all_listed` meets its contract. The invariant: the bytes from i on decide.
 -- The measure is what is left of the text.
 -- Assumes nothing.
-use mathlib.Core.Path.{◌≡◌, refl, ◌∙◌}
-use Prim.Native.Nat.{◌-◌}
+use mathlib.Core.Path.{◌∙◌}
 use Rattle.sheet_lines.proofs.ByteLaws.{test_yes, test_no, every_on, every_off, every_end}
 use Rattle.sheet_cells.proofs.all_listed.Goals as goal
 

@@ -1,7 +1,7 @@
 -- `read_rows` meets its contract. The invariant: i rows are read. The measure is the number of rows left.
 -- Assumes nothing.
 use Prim.Native.Nat.{◌-◌}
-use Rattle.sheet_lines.proofs.Passing.{Passing, passing_start, passing_on, passing_stop, passing_end}
+use Rattle.sheet_lines.proofs.Passing.{Passing}
 use Rattle.sheet_cells.specs.Cells.{row_judge}
 use Rattle.sheet_cells.proofs.read_rows.Given as goal
 

@@ -2,11 +2,9 @@
 -- The measure is the number of rows left.
 -- Assumes nothing.
 use mathlib.Core.Path.{sym, ap, ◌∙◌}
-use Prim.Native.Nat.{◌-◌}
 use native.Mathlib.Omega.{arith}
-use borrow.Author.Rules.{rules}
-use Rattle.sheet_lines.proofs.Filling.{Going, going_start, going_on, going_stop, going_end, going_taken}
-use Rattle.sheet_costs.specs.Costs.{cost_item, cost_judge}
+use Rattle.sheet_lines.proofs.Filling.{going_on, going_stop, going_end, going_taken}
+use Rattle.sheet_costs.specs.Costs.{cost_item}
 use Rattle.sheet_costs.proofs.CostLaws.{cost_row_rules}
 use Rattle.sheet_costs.proofs.CostSteps.{cost_wrong, cost_read}
 use Rattle.sheet_costs.proofs.read_cost_rows.Goals as goal

@@ -2,8 +2,8 @@
 -- The measure is the number of rows left.
 -- Assumes nothing.
 use Prim.Native.Nat.{◌-◌}
-use Rattle.sheet_lines.proofs.Filling.{Going, going_start, going_on, going_stop, going_end, going_taken}
-use Rattle.sheet_costs.specs.Costs.{cost_item, cost_judge}
+use Rattle.sheet_lines.proofs.Filling.{Going}
+use Rattle.sheet_costs.specs.Costs.{cost_judge}
 use Rattle.sheet_costs.proofs.read_cost_rows.Given as goal
 
 abbrev pub invariant-loop-x : goal.invariant-loop-x

@@ -2,8 +2,7 @@
 -- The invariant: the line from i on ends where the line from the start on ends.
 -- The measure is what is left of the sheet.
 -- Assumes nothing.
-use mathlib.Core.Path.{◌≡◌, refl, ◌∙◌}
-use Prim.Native.Nat.{◌-◌}
+use mathlib.Core.Path.{◌∙◌}
 use Rattle.sheet_lines.proofs.ByteLaws.{test_yes, test_no}
 use Rattle.sheet_lines.proofs.LineSteps.{line_stop, line_bad, line_on, line_past}
 use Rattle.sheet_lines.proofs.line_end.Goals as goal

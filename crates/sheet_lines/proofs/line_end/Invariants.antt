@@ -2,7 +2,7 @@
 -- The invariant: the line from i on ends where the line from the start on ends.
 -- The measure is what is left of the sheet.
 -- Assumes nothing.
-use mathlib.Core.Path.{◌≡◌, refl, ◌∙◌}
+use mathlib.Core.Path.{◌≡◌}
 use Prim.Native.Nat.{◌-◌}
 use lib.ListN.{length}
 use Rattle.sheet_lines.specs.Line.{line_end}

@@ -2,8 +2,7 @@
 -- The invariant: the value is at most 655,359, and it and the digits from i on make the number.
 -- The measure is what is left of the sheet.
 -- Assumes nothing.
-use mathlib.Core.Path.{◌≡◌, refl, ◌∙◌}
-use Prim.Native.Nat.{◌-◌, ◌≤◌}
+use mathlib.Core.Path.{◌∙◌}
 use native.Mathlib.Omega.{arith}
 use Rattle.sheet_lines.proofs.ByteLaws.{test_yes, test_no, within_told}
 use Rattle.sheet_lines.proofs.NumberSteps.{digits_over, digits_stop, digits_on, digits_end}

@@ -2,7 +2,7 @@
 -- The invariant: the value is at most 655,359, and it and the digits from i on make the number.
 -- The measure is what is left of the sheet.
 -- Assumes nothing.
-use mathlib.Core.Path.{◌≡◌, refl, ◌∙◌}
+use mathlib.Core.Path.{◌≡◌}
 use Prim.Native.Nat.{◌-◌, ◌≤◌}
 use lib.ListN.{length}
 use Rattle.sheet_lines.specs.Number.{digits_of}

@@ -3,7 +3,7 @@
 use mathlib.Core.Path.{◌∙◌}
 use native.Mathlib.Omega.{arith}
 use Rattle.sheet_lines.proofs.ByteLaws.{test_yes, test_no, within_told}
-use Rattle.sheet_lines.proofs.NumberSteps.{number_past, number_zero, number_none, number_more}
+use Rattle.sheet_lines.proofs.NumberSteps.{number_none, number_more}
 use Rattle.sheet_lines.proofs.number_at.Goals as goal
 
 pub returns-then-not-byte_within : goal.returns-then-not-byte_within

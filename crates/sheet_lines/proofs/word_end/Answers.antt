@@ -2,9 +2,8 @@
 -- The invariant: the rest of the word from i on ends where the whole word does.
 -- The measure is what is left of the word.
 -- Assumes nothing.
-use mathlib.Core.Path.{◌≡◌, refl, ◌∙◌}
-use Prim.Native.Nat.{◌-◌}
-use Rattle.sheet_lines.specs.Word.{word_in, word_of}
+use mathlib.Core.Path.{refl, ◌∙◌}
+use Rattle.sheet_lines.specs.Word.{word_of}
 use Rattle.sheet_lines.proofs.WordSteps.{word_short, word_other, word_on, word_whole}
 use Rattle.sheet_lines.proofs.word_end.Goals as goal
 

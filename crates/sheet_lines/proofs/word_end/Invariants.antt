@@ -2,7 +2,7 @@
 -- The invariant: the rest of the word from i on ends where the whole word does.
 -- The measure is what is left of the word.
 -- Assumes nothing.
-use mathlib.Core.Path.{◌≡◌, refl, ◌∙◌}
+use mathlib.Core.Path.{◌≡◌}
 use Prim.Native.Nat.{◌-◌}
 use lib.ListN.{length, drop}
 use Rattle.sheet_lines.specs.Word.{word_in, word_of}

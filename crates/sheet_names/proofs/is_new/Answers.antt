@@ -1,8 +1,7 @@
 -- `is_new` meets its contract. The invariant: the names from i on decide.
 -- The measure is the number of names left.
 -- Assumes nothing.
-use mathlib.Core.Path.{◌≡◌, refl, sym, ◌∙◌}
-use Prim.Native.Nat.{◌-◌}
+use mathlib.Core.Path.{refl, sym, ◌∙◌}
 use Rattle.sheet_lines.specs.Bytes.{text_of}
 use Rattle.sheet_names.proofs.NameSteps.{new_on, new_not, new_end}
 use Rattle.sheet_names.proofs.is_new.Goals as goal

@@ -1,7 +1,7 @@
 -- `is_new` meets its contract. The invariant: the names from i on decide.
 -- The measure is the number of names left.
 -- Assumes nothing.
-use mathlib.Core.Path.{◌≡◌, refl, sym, ◌∙◌}
+use mathlib.Core.Path.{◌≡◌}
 use Prim.Native.Nat.{◌-◌}
 use lib.ListN.{take}
 use Rattle.sheet_lines.specs.Bytes.{text_of}

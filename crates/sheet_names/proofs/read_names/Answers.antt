@@ -1,8 +1,7 @@
 -- `read_names` meets its contract. The invariant: i names are read, and their places stand in the list.
 -- The measure is the number of names left.
 -- Assumes nothing.
-use Prim.Native.Nat.{◌-◌}
-use Rattle.sheet_lines.proofs.Filling.{Going, going_start, going_on, going_stop, going_end}
+use Rattle.sheet_lines.proofs.Filling.{going_on, going_stop, going_end}
 use Rattle.sheet_lines.proofs.SectionSteps.{placed_wrong, placed_read}
 use Rattle.sheet_names.proofs.read_names.Goals as goal
 

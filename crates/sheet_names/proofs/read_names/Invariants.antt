@@ -2,7 +2,7 @@
 -- The measure is the number of names left.
 -- Assumes nothing.
 use Prim.Native.Nat.{◌-◌}
-use Rattle.sheet_lines.proofs.Filling.{Going, going_start, going_on, going_stop, going_end}
+use Rattle.sheet_lines.proofs.Filling.{Going}
 use Rattle.sheet_names.specs.Names.{name_of}
 use Rattle.sheet_names.proofs.read_names.Given as goal
 

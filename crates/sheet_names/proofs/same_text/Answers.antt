@@ -1,8 +1,7 @@
 -- `same_text` meets its contract. The invariant: the lines from i and j on decide.
 -- The measure is what is left of the sheet after i.
 -- Assumes nothing.
-use mathlib.Core.Path.{◌≡◌, refl, ◌∙◌}
-use Prim.Native.Nat.{◌-◌}
+use mathlib.Core.Path.{◌∙◌}
 use Rattle.sheet_names.proofs.NameSteps.{same_on, same_end, same_other, same_right, same_left}
 use Rattle.sheet_names.proofs.same_text.Goals as goal
 

@@ -1,7 +1,7 @@
 -- `same_text` meets its contract. The invariant: the lines from i and j on decide.
 -- The measure is what is left of the sheet after i.
 -- Assumes nothing.
-use mathlib.Core.Path.{◌≡◌, refl, ◌∙◌}
+use mathlib.Core.Path.{◌≡◌}
 use Prim.Native.Nat.{◌-◌}
 use lib.ListN.{length, drop}
 use Rattle.sheet_names.specs.Name.{same_text}

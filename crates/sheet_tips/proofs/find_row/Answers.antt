@@ -1,9 +1,8 @@
 -- `find_row` meets its contract. The invariant: the names from r on decide.
 -- The measure is the number of names left.
 -- Assumes nothing.
-use Rattle.sheet_tips.proofs.TokenLaws.{search_from, search_begin, search_found, search_more, search_none}
-use Prim.Native.Nat.{◌-◌}
-use mathlib.Core.Path.{◌≡◌, refl, sym, ◌∙◌}
+use Rattle.sheet_tips.proofs.TokenLaws.{search_begin, search_found, search_more, search_none}
+use mathlib.Core.Path.{sym, ◌∙◌}
 use Rattle.sheet_tips.proofs.find_row.Goals as goal
 
 pub returns-then-is_line : goal.returns-then-is_line

@@ -1,9 +1,9 @@
 -- `find_row` meets its contract. The invariant: the names from r on decide.
 -- The measure is the number of names left.
 -- Assumes nothing.
-use Rattle.sheet_tips.proofs.TokenLaws.{search_from, search_begin, search_found, search_more, search_none}
+use Rattle.sheet_tips.proofs.TokenLaws.{search_from}
 use Prim.Native.Nat.{◌-◌}
-use mathlib.Core.Path.{◌≡◌, refl, sym, ◌∙◌}
+use mathlib.Core.Path.{◌≡◌}
 use Rattle.sheet_tips.proofs.find_row.Given as goal
 
 abbrev pub invariant-loop-r : goal.invariant-loop-r

@@ -3,8 +3,7 @@
 -- Assumes nothing.
 use Rattle.sheet_lines.proofs.ByteLaws.{test_yes, test_no}
 use Rattle.sheet_tips.proofs.TokenLaws.{token_more, token_stop, token_end_lem}
-use Prim.Native.Nat.{◌-◌}
-use mathlib.Core.Path.{◌≡◌, refl, sym, ◌∙◌}
+use mathlib.Core.Path.{sym, ◌∙◌}
 use Rattle.sheet_tips.proofs.token_end.Goals as goal
 
 pub returns-then-not-name_byte : goal.returns-then-not-name_byte

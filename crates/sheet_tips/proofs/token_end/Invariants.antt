@@ -4,7 +4,7 @@
 use Rattle.sheet_tips.specs.Token.{token_end}
 use lib.ListN.{length}
 use Prim.Native.Nat.{◌-◌}
-use mathlib.Core.Path.{◌≡◌, refl, sym, ◌∙◌}
+use mathlib.Core.Path.{◌≡◌}
 use Rattle.sheet_tips.proofs.token_end.Given as goal
 
 abbrev pub invariant-loop-i : goal.invariant-loop-i

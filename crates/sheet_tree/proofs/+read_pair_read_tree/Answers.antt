@@ -1,23 +1,7 @@
 -- The readers of a tree and of a pair meet their contracts.
 -- Assumes nothing.
 use Rattle.std.proofs.Common.{refl, sym, ◌∙◌, arith}
-use Rattle.sheet_tree.proofs.PairSteps.{
-  byte_inside,
-  gives_tree,
-  gives_none,
-  gives_same,
-  tree_pair,
-  tree_name,
-  pair_flat,
-  pair_first,
-  pair_comma,
-  pair_second,
-  pair_close,
-  pair_whole,
-  second_ready,
-  pair_room,
-  pair_got,
-}
+use Rattle.sheet_tree.proofs.PairSteps.{gives_tree, gives_none, gives_same, tree_pair, tree_name, pair_flat, pair_first, pair_comma, pair_second, pair_close, pair_whole, second_ready, pair_room, pair_got}
 use Rattle.sheet_lines.proofs.ByteLaws.{test_yes, test_no}
 use Rattle.sheet_tree.proofs.+read_pair_read_tree.Goals as goal
 

@@ -10,7 +10,7 @@ use Rattle.sheet_tree.proofs.LineSteps.{
   line_got,
   line_nodes,
 }
-use Rattle.sheet_tree.proofs.PairSteps.{byte_inside, gives_tree, gives_none}
+use Rattle.sheet_tree.proofs.PairSteps.{gives_tree, gives_none}
 use Rattle.sheet_lines.proofs.ByteLaws.{test_yes, test_no}
 use native.Mathlib.Omega.{arith}
 use Rattle.sheet_tree.proofs.tree_line.Goals as goal

@@ -1,9 +1,8 @@
 -- `rows_open` meets its contract. The loop's invariant: each row before i has an entry that is not barred. The measure
 -- is the number of rows left.
 -- Assumes nothing.
-use Prim.Native.Nat.{ℕ, ◌+◌, ◌*◌, ◌-◌, ◌<◌, ◌≤◌}
-use borrow.Author.Count.{below_none, below_more}
-use Rattle.parsimony.proofs.TellsLaws.{unless_yes, unless_no, all_no, all_yes}
+use borrow.Author.Count.{below_more}
+use Rattle.parsimony.proofs.TellsLaws.{unless_yes}
 use Rattle.table_handed.proofs.rows_open.Goals as goal
 
 pub loop-i-preserved : goal.loop-i-preserved

@@ -2,8 +2,8 @@
 -- is the number of rows left.
 -- Assumes nothing.
 use mathlib.Core.Path.{◌≡◌}
-use Prim.Native.Nat.{ℕ, ◌+◌, ◌*◌, ◌-◌, ◌<◌, ◌≤◌}
-use lib.ListN.{length, get_or}
+use Prim.Native.Nat.{ℕ, ◌+◌, ◌*◌, ◌-◌, ◌<◌}
+use lib.ListN.{get_or}
 use Rattle.parsimony.specs.Barred.{barred}
 use Rattle.table_handed.proofs.rows_open.Given as goal
 

@@ -2,9 +2,9 @@
 -- Assumes nothing.
 use mathlib.Core.Path.{subst}
 use lib.ListN.{length}
-use Rattle.parsimony.proofs.TellsLaws.{unless_yes, unless_no}
+use Rattle.parsimony.proofs.TellsLaws.{unless_yes}
 use Rattle.parsimony.specs.Table.{symbol, node_at}
-use Rattle.promises.proofs.RefusalLaws.{size_refused, shape_refused, costs_refused, cells_refused}
+use Rattle.promises.proofs.RefusalLaws.{shape_refused}
 use Rattle.tree_nodes.proofs.NodeLaws.{tips_most}
 use Rattle.tree_test.specs.Found.{Found}
 use native.Mathlib.Omega.{arith}

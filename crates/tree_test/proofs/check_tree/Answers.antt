@@ -2,9 +2,8 @@
 -- and the uses by the nodes after it are added to its marks before an unused node is looked for.
 -- Assumes nothing.
 use Rattle.tree_uses.proofs.MarkLaws.{counted_zeros}
-use Rattle.tree_test.proofs.FoundLaws.{found_none, found_fault}
-use Rattle.tree_test.proofs.VisitLaws.{surveyed, marked_none}
-use borrow.Author.Rules.{rules}
+use Rattle.tree_test.proofs.FoundLaws.{found_none}
+use Rattle.tree_test.proofs.VisitLaws.{marked_none}
 use Rattle.tree_test.proofs.check_tree.Goals as goal
 
 pub walk-broken-requires-clause-marked : goal.walk-broken-requires-clause-marked

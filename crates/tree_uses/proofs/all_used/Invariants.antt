@@ -3,7 +3,7 @@
 -- Assumes nothing.
 use Prim.Native.Nat.{◌-◌, ◌≤◌}
 use lib.ListN.{get_or}
-use Rattle.parsimony.proofs.Extremes.{LowestSoFar, extreme_none, lowest_more}
+use Rattle.parsimony.proofs.Extremes.{LowestSoFar}
 use Rattle.tree_uses.proofs.all_used.Given as goal
 
 abbrev pub invariant-loop-u : goal.invariant-loop-u

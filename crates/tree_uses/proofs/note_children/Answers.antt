@@ -1,10 +1,9 @@
 -- `note_children` meets its contract. The invariant: the marks count the child uses of the nodes below v. The measure
 -- is what is left of the nodes.
 -- Assumes nothing.
-use Prim.Native.Nat.{◌≤◌, ◌-◌}
 use native.Mathlib.Omega.{arith}
-use Rattle.parsimony.specs.Table.{node_at, child_uses}
-use Rattle.tree_uses.proofs.MarkLaws.{children_low, children_counted, children_end}
+use Rattle.parsimony.specs.Table.{node_at}
+use Rattle.tree_uses.proofs.MarkLaws.{children_low, children_counted}
 use Rattle.tree_uses.proofs.note_children.Goals as goal
 
 pub note_kids-requires : goal.note_kids-requires

@@ -1,6 +1,6 @@
 -- `note_kids` meets its contract: a tip adds nothing, and an inner node one use for each child.
 -- Assumes nothing.
-use Rattle.tree_uses.proofs.MarkLaws.{raised_none, raised_both, raised_most, most_weak}
+use Rattle.tree_uses.proofs.MarkLaws.{raised_most}
 use Rattle.tree_uses.proofs.note_kids.Goals as goal
 
 pub add_use-requires-in-Inner : goal.add_use-requires-in-Inner

@@ -1,6 +1,6 @@
 -- `take_kids` meets its contract: children that are free get a use each, and else nothing is written.
 -- Assumes nothing.
-use Rattle.tree_uses.proofs.MarkLaws.{raised_both, raised_most, most_weak}
+use Rattle.tree_uses.proofs.MarkLaws.{raised_most}
 use Rattle.tree_uses.proofs.take_kids.Goals as goal
 
 pub add_use-requires-2 : goal.add_use-requires-2

@@ -1,15 +1,10 @@
 -- `fill_sets` meets its contract. The loop's invariant: the root has its start, and the children of each node from v on
 -- have their sets. The measure is the number of nodes to go, v.
 -- Assumes nothing.
-use mathlib.Core.Path.{refl, ◌∙◌}
+use mathlib.Core.Path.{refl}
 use native.Mathlib.Omega.{arith}
-use Rattle.walk_down.proofs.DownSteps.{
-  Descending,
-  descending_start,
-  descending_done,
-  descending_step,
-}
-use Rattle.parsimony.proofs.LegalLaws.{legal_some, legal_rooted}
+use Rattle.walk_down.proofs.DownSteps.{descending_step}
+use Rattle.parsimony.proofs.LegalLaws.{legal_rooted}
 use Rattle.walk_down.proofs.fill_sets.Goals as goal
 
 pub loop-v-preserved : goal.loop-v-preserved

@@ -2,14 +2,8 @@
 -- on have their states. The measure is the number of nodes to go, v.
 -- Assumes nothing.
 use native.Mathlib.Omega.{arith}
-use Rattle.walk_down.proofs.DownSteps.{
-  Descending,
-  descending_start,
-  descending_done,
-  descending_step,
-  descending_low,
-}
-use Rattle.parsimony.proofs.LegalLaws.{legal_some, legal_rooted}
+use Rattle.walk_down.proofs.DownSteps.{descending_step, descending_low}
+use Rattle.parsimony.proofs.LegalLaws.{legal_rooted}
 use Rattle.walk_down.proofs.PassSteps.{chosen_low}
 use Rattle.walk_down.proofs.fill_states.Goals as goal
 

@@ -2,15 +2,9 @@
 -- on have their states. The measure is the number of nodes to go, v.
 -- Assumes nothing.
 use Prim.Native.Nat.{◌≤◌}
-use lib.ListN.{length, length-set}
+use lib.ListN.{length}
 use Rattle.parsimony.specs.Table.{kids_at}
-use Rattle.walk_down.proofs.DownSteps.{
-  Descending,
-  descending_start,
-  descending_done,
-  descending_step,
-  descending_low,
-}
+use Rattle.walk_down.proofs.DownSteps.{Descending}
 use Rattle.walk_down.specs.Pass.{chosen}
 use Rattle.walk_down.proofs.fill_states.Given as goal
 

@@ -3,7 +3,7 @@
 use mathlib.Core.Path.{subst}
 use Rattle.parsimony.specs.Written.{Wrote}
 use Rattle.promises.proofs.RuleLaws.{hand_up_parts}
-use Rattle.promises.specs.Input.{Input, input, nodes}
+use Rattle.promises.specs.Input.{Input, input}
 use Rattle.row_step.specs.Lane.{entry_at}
 use Rattle.column_work.proofs.ResultLaws.{row_copied}
 use Rattle.column_work.proofs.handing_up.row_column.Goals as goal

@@ -6,7 +6,7 @@ use lib.ListN.{length}
 use Rattle.promises.proofs.RuleLaws.{label_parts}
 use Rattle.promises.specs.Input.{Input, input, nodes}
 use Rattle.rows_up.proofs.RowSteps.{table_calm}
-use Rattle.column_work.proofs.ResultLaws.{start_state, states_walked}
+use Rattle.column_work.proofs.ResultLaws.{states_walked}
 use native.Mathlib.Omega.{arith}
 use Rattle.column_work.proofs.labelling.label_column.Goals as goal
 

@@ -1,10 +1,9 @@
 -- `score_columns` meets its contract. The invariant: the columns below j are scored, and the row room holds the last of
 -- them. The measure is what is left of the columns.
 -- Assumes nothing.
-use Prim.Native.Nat.{◌-◌, ◌≤◌}
 use Rattle.promises.proofs.RuleLaws.{score_parts}
 use Rattle.promises.specs.Input.{Input, input}
-use Rattle.column_work.proofs.ScoreSteps.{ScoresTo, scores_none, scores_more, scores_all}
+use Rattle.column_work.proofs.ScoreSteps.{scores_more}
 use native.Mathlib.Omega.{arith}
 use Rattle.column_work.proofs.scoring.score_columns.Goals as goal
 

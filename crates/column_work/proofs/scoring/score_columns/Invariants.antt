@@ -2,8 +2,8 @@
 -- them. The measure is what is left of the columns.
 -- Assumes nothing.
 use Prim.Native.Nat.{◌-◌, ◌≤◌}
-use Rattle.promises.specs.Input.{Input, input}
-use Rattle.column_work.proofs.ScoreSteps.{ScoresTo, scores_none, scores_more, scores_all}
+use Rattle.promises.specs.Input.{input}
+use Rattle.column_work.proofs.ScoreSteps.{ScoresTo}
 use Rattle.column_work.proofs.scoring.score_columns.Given as goal
 
 abbrev pub invariant-loop-j : goal.invariant-loop-j

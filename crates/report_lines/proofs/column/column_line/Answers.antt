@@ -4,14 +4,7 @@ use mathlib.Core.List.{[]}
 use mathlib.Core.Path.{ap}
 use lib.ListN.{length}
 use Rattle.promises.specs.Input.{input}
-use Rattle.report_lines.proofs.ReportLaws.{
-  work_rules_lem,
-  line_most,
-  text_is,
-  report_is,
-  worked_done,
-  worked_unrefused,
-}
+use Rattle.report_lines.proofs.ReportLaws.{line_most, text_is, report_is, worked_done}
 use native.Mathlib.Omega.{arith}
 use Rattle.report_lines.proofs.column.column_line.Goals as goal
 

@@ -1,8 +1,7 @@
 -- `put_letters` meets its contract. The first v letters are put; the measure is the number of nodes left.
 -- Assumes nothing.
-use Prim.Native.Nat.{◌-◌}
 use lib.ListN.{get_or}
-use Rattle.report_marks.proofs.LetterLaws.{Lettered, lettered_none, lettered_more, lettered_all}
+use Rattle.report_marks.proofs.LetterLaws.{lettered_none, lettered_more}
 use Rattle.report_marks.proofs.letters.put_letters.Goals as goal
 
 pub loop-v-init : goal.loop-v-init

@@ -2,7 +2,7 @@
 -- Assumes nothing.
 use Prim.Native.Nat.{◌-◌}
 use lib.ListN.{get_or}
-use Rattle.report_marks.proofs.LetterLaws.{Lettered, lettered_none, lettered_more, lettered_all}
+use Rattle.report_marks.proofs.LetterLaws.{Lettered}
 use Rattle.report_marks.proofs.letters.put_letters.Given as goal
 
 abbrev pub invariant-loop-v : goal.invariant-loop-v

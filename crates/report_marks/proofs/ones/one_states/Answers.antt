@@ -1,10 +1,9 @@
 -- `one_states` meets its contract. The first v sets are counted; the measure is the number of sets left.
 -- Assumes nothing.
-use Prim.Native.Nat.{◌-◌}
 use native.Mathlib.Omega.{arith}
 use lib.ListN.{get_or}
 use Rattle.parsimony.specs.Limits.{cell_bits}
-use Rattle.report_marks.proofs.OneStateLaws.{CountedTo, counted_none, counted_more, counted_most, counted_all}
+use Rattle.report_marks.proofs.OneStateLaws.{counted_none, counted_more, counted_most}
 use Rattle.report_marks.proofs.ones.one_states.Goals as goal
 
 pub loop-v-init : goal.loop-v-init

@@ -3,7 +3,7 @@
 use Prim.Native.Nat.{◌-◌}
 use lib.ListN.{get_or}
 use Rattle.parsimony.specs.Limits.{cell_bits}
-use Rattle.report_marks.proofs.OneStateLaws.{CountedTo, counted_none, counted_more, counted_most, counted_all}
+use Rattle.report_marks.proofs.OneStateLaws.{CountedTo}
 use Rattle.report_marks.proofs.ones.one_states.Given as goal
 
 abbrev pub invariant-loop-v : goal.invariant-loop-v

@@ -1,7 +1,6 @@
 -- `count_cells` meets its contract. The first i cells are counted; the measure is the number of cells left.
 -- Assumes nothing.
-use Prim.Native.Nat.{◌-◌}
-use Rattle.report_marks.proofs.QuietSteps.{Tallied, tallied_none, tallied_more, tallied_all}
+use Rattle.report_marks.proofs.QuietSteps.{tallied_more, tallied_all}
 use Rattle.report_marks.proofs.quiet.count_cells.Goals as goal
 
 pub loop-i-preserved : goal.loop-i-preserved

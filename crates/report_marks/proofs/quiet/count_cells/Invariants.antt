@@ -2,7 +2,7 @@
 -- Assumes nothing.
 use Prim.Native.Nat.{◌-◌}
 use lib.ListN.{length}
-use Rattle.report_marks.proofs.QuietSteps.{Tallied, tallied_none, tallied_more, tallied_all}
+use Rattle.report_marks.proofs.QuietSteps.{Tallied}
 use Rattle.report_marks.proofs.quiet.count_cells.Given as goal
 
 abbrev pub invariant-loop-i : goal.invariant-loop-i

@@ -1,6 +1,6 @@
 -- `count` meets its contract: a refusal of the tests leaves all as it was, and else the column is counted.
 -- Assumes nothing.
-use mathlib.Core.Path.{refl, subst}
+use mathlib.Core.Path.{subst}
 use Rattle.table_tests.specs.Tested.{Tests}
 use Rattle.scorer.proofs.CountResult.{count_right}
 use Rattle.scorer.proofs.counting.count.Goals as goal

@@ -3,7 +3,7 @@
 -- Assumes nothing.
 use mathlib.Core.Path.{◌≡◌}
 use Prim.Native.Nat.{ℕ, ◌+◌, ◌*◌, ◌-◌, ◌<◌}
-use lib.ListN.{length, get_or}
+use lib.ListN.{get_or}
 use Rattle.table_entries.proofs.costs.diagonal_free.Given as goal
 
 abbrev pub invariant-loop-state : goal.invariant-loop-state

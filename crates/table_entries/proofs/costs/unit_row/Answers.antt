@@ -1,11 +1,10 @@
 -- `unit_row` meets its contract. The loop's invariant: the row is of unit costs before y. The measure
 -- is what is left of the row.
 -- Assumes nothing.
-use mathlib.Core.Path.{◌≡◌, sym, ◌∙◌}
-use Prim.Native.Nat.{ℕ, ◌+◌, ◌*◌, ◌-◌, ◌<◌}
-use borrow.Author.Count.{below_none, below_more}
+use mathlib.Core.Path.{sym, ◌∙◌}
+use borrow.Author.Count.{below_more}
 use Rattle.parsimony.specs.Column.{cost_at}
-use Rattle.parsimony.proofs.TellsLaws.{all_no, all_yes}
+use Rattle.parsimony.proofs.TellsLaws.{all_no}
 use Rattle.table_entries.proofs.costs.unit_row.Goals as goal
 
 pub returns-then-costs-x : goal.returns-then-costs-x

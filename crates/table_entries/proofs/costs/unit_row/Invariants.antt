@@ -1,8 +1,8 @@
 -- `unit_row` meets its contract. The loop's invariant: the row is of unit costs before y. The measure
 -- is what is left of the row.
 -- Assumes nothing.
-use mathlib.Core.Path.{◌≡◌, sym, ◌∙◌}
-use Prim.Native.Nat.{ℕ, ◌+◌, ◌*◌, ◌-◌, ◌<◌}
+use mathlib.Core.Path.{◌≡◌}
+use Prim.Native.Nat.{ℕ, ◌-◌, ◌<◌}
 use lib.Dec.{eqb}
 use Rattle.parsimony.specs.Column.{cost_at}
 use Rattle.parsimony.specs.Test.{pick}

@@ -3,7 +3,7 @@
 -- Assumes nothing.
 use Prim.Native.Nat.{◌-◌, ◌≤◌}
 use lib.ListN.{length, get_or}
-use Rattle.parsimony.proofs.Extremes.{LowestSoFar, HighestSoFar, extreme_none, lowest_more, highest_more}
+use Rattle.parsimony.proofs.Extremes.{LowestSoFar, HighestSoFar}
 use Rattle.table_entries.proofs.ranges.all_within.Given as goal
 
 abbrev pub invariant-loop-i : goal.invariant-loop-i

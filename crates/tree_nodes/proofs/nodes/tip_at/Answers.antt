@@ -1,6 +1,5 @@
 -- `tip_at` meets its contract: the two tests are those of the definition, and their product says that both hold.
 -- Assumes nothing.
-use Prim.Native.Nat.{◌-◌}
 use native.Mathlib.Omega.{arith}
 use lib.Dec.{eqb, ltb}
 use lib.ListN.{get_or}

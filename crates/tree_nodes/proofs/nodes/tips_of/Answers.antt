@@ -1,8 +1,7 @@
 -- `tips_of` meets its contract. The invariant: the two counts are those of the tips among the nodes below v. The
 -- measure is what is left of the nodes.
 -- Assumes nothing.
-use mathlib.Core.Path.{◌≡◌, sym, ap, ◌∙◌}
-use Prim.Native.Nat.{◌≤◌, ◌-◌}
+use mathlib.Core.Path.{sym}
 use Rattle.tree_nodes.proofs.NodeLaws.{tips_none, tips_step}
 use native.Mathlib.Omega.{arith}
 use Rattle.tree_nodes.proofs.nodes.tips_of.Goals as goal
