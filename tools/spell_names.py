@@ -7,7 +7,8 @@ usage: python3 tools/spell_names.py            at the top of the repository: rew
 It stands beside the kit's port.py, which spells the library's names anew and leaves most of ours. A name is ours if a
 file of specs/ or proofs/ declares it. A name that a proof of a function answers by (its type is of the module `tie`) is
 Rattle's, and stays. Names of Rust functions, exported names, strings, inputs and outputs stay. A lemma that would have
-its function's name gets _lem. If two names would fall together all the same, the script stops and changes nothing.
+its function's name gets _lem. If two names would fall together all the same, the script stops and changes nothing. It
+runs once, on what port.py leaves: where no proof is of the older form it does nothing.
 """
 
 import os
@@ -153,6 +154,9 @@ def turn_edit(text, new):
 
 
 def main(argv):
+    if not any(path.endswith("/Proof.antt") for path in texts("crates", (".antt",))):
+        print("spell_names: the proofs are of today's form, and the names were spelled before: nothing to do")
+        return 0
     new, met = renaming()
     if argv == ["--list"]:
         print("\n".join(f"{o} {n}" for o, n in new.items()))

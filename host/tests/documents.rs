@@ -130,7 +130,8 @@ fn every_name_is_declared() {
 fn every_theorem_stands_in_a_file_that_is_named_with_it() {
     let sources = names_by_file();
     let declared = |name: &str, proofs: bool| {
-        sources.iter().any(|(path, names)| path.contains("/proofs/") == proofs && names.contains(name))
+        let crates = sources.iter().filter(|(path, _)| path.starts_with("crates/"));
+        crates.filter(|(path, _)| path.contains("/proofs/") == proofs).any(|(_, names)| names.contains(name))
     };
     let crates = crates();
     let is_theorem = |name: &&str| {

@@ -1,5 +1,5 @@
-// The five table calls with numbers as u64, as C and Rust call them (`calls_c` exports them). The result's low 8 bits are
-// the number; above them stand the node for SHAPE and the change count of set counting, else 0.
+// The five table calls with numbers as u64, as C and Rust call them (`calls_c` exports them). The result's low 8 bits
+// are the number; above them stand the node for SHAPE and the change count of set counting, else 0.
 #![tactic(auto)]
 
 ghost use Rattle.std.specs.Prelude.{◌≡◌, [], ◌<◌};

@@ -1,5 +1,5 @@
-// The five table calls for C and Rust, exported: numbers as u64, a slice as pointer and count. Each is the call of its name
-// in `calls`, under the same contract.
+// The five table calls for C and Rust, exported: numbers as u64, a slice as pointer and count. Each is the call of its
+// name in `calls`, under the same contract.
 #![tactic(auto)]
 
 ghost use Rattle.std.specs.Prelude.{[]};

@@ -84,19 +84,19 @@ cuts_from_lem (v ∷ vs) I J now back low same ok (here, (cut, more)) leads =
     let least = suc (renumber K.keep (now v)) in
     let ready = ready_rest I table (now v) cut sent right now vs (suc (now v)) least (omega arith)
     (λ w h. renumber_lt K.keep (now v) w (rest_own I table (now v) cut sent right) h) more in
-    let leads-on : (u : ℕ) → least ≤ renumber K.keep (now u)
+    let leads_on : (u : ℕ) → least ≤ renumber K.keep (now u)
     → renumber K.keep (now u) < nodes (rest I (now v) sent)
     → back (rest_node J (now v) no_rows (renumber K.keep (now u))) ≡ u =
-    λ u h k. let (high, low-enough, own) = rest_back I table (now v) cut sent right (now u) h k in
+    λ u h k. let (high, low_enough, own) = rest_back I table (now v) cut sent right (now u) h k in
     ap (λ f. back (f (renumber K.keep (now u)))) (node_same I J same (now v) sent no_rows)
     ∙ ap back own
-    ∙ leads u (omega arith) low-enough in
+    ∙ leads u (omega arith) low_enough in
     ap₂ ◌∷◌ (leads v here (omega arith))
     (cuts_from_lem vs (rest I (now v) sent) (rest J (now v) no_rows) _ _ least (rest_same I J same (now v) sent no_rows)
     (again I ok K (nodes I - 1) (rest_stands I table (now v) cut sent right))
     (subst (λ keep. Ready (rest I (now v) sent) (λ u. renumber keep (now u)) least vs) (sym kept) ready)
     (subst (λ keep. (u : ℕ) → least ≤ renumber keep (now u) → renumber keep (now u) < nodes (rest I (now v) sent)
-    → back (rest_node J (now v) no_rows (renumber keep (now u))) ≡ u) (sym kept) leads-on))
+    → back (rest_node J (now v) no_rows (renumber keep (now u))) ≡ u) (sym kept) leads_on))
 
 -- The plan cuts a table that may be cut at these nodes and nowhere else.
 pub nodes_exactly : (I : Input) → Cuttable I → (vs : List ℕ) → MayCut I 0 vs → nodes_cut (cuts_at I vs) I (λ u. u) ≡ vs

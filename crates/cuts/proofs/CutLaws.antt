@@ -49,9 +49,9 @@ module _ (I : Input) (table : Allowed I) (v : ℕ) (cut : CutAt I v) where
 
   -- the mark of a child under a marked parent
   branch_child : (p u : ℕ) → p ≤ last → Has u (kids_of (node_in I p)) → branch I v p ≡ 1 → branch I v u ≡ 1
-  branch_child p u h c marked-parent =
+  branch_child p u h c marked_parent =
       by_eq u v (λ e. down.edge h c ∙ ap (λ w. pass_mark v w (branch I v p)) e ∙ marked_own v (branch I v p))
-      (λ ne. down.edge h c ∙ marked_other v u (branch I v p) ne ∙ marked-parent)
+      (λ ne. down.edge h c ∙ marked_other v u (branch I v p) ne ∙ marked_parent)
 
   -- and under one that is not marked
   branch_free : (p u : ℕ) → p ≤ last → Has u (kids_of (node_in I p)) → (u ≡ v → ⊥) → branch I v u ≡ branch I v p

@@ -142,7 +142,7 @@ module _ (I : Input) (table : Allowed I) (K : Choice) (top : ℕ) (stands : Stan
   pub tips_few : t ≤ n
   unfolding tips
   tips_few =
-      let each-one = sum_le (λ p. is_tip symbol (node_in I p)) (λ p. 1) n (λ p h. tip_le symbol (node_in I p)) in
+      let each_one = sum_le (λ p. is_tip symbol (node_in I p)) (λ p. 1) n (λ p h. tip_le symbol (node_in I p)) in
       let ones = sum_ones n in
       omega arith
 

@@ -100,9 +100,9 @@ module _ (I : Input) (table : Allowed I) (K : Choice) (top : ℕ) (stands : Stan
   new_apart i h (inner a b) e a' b' f g =
       let (inside, kept, number) = from I table K top stands i h in
       let (same, ka, kb) = stands.kids (piece_node I K i) a b inside kept e in
-      let left-same : renumber K.keep a ≡ a' = cc in
-      let right-same : renumber K.keep b ≡ b' = cc in
-      tree.apart inside same (renumber_one K.keep a b ka kb (left-same ∙ g ∙ sym right-same))
+      let left_same : renumber K.keep a ≡ a' = cc in
+      let right_same : renumber K.keep b ≡ b' = cc in
+      tree.apart inside same (renumber_one K.keep a b ka kb (left_same ∙ g ∙ sym right_same))
 
   -- The piece keeps the tree rules.
   pub piece_tree : TreeRules m (node_in (piece I K))

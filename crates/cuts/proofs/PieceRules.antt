@@ -168,16 +168,16 @@ module _ (I : Input) (table : Allowed I) (K : Choice) (top : ℕ) (stands : Stan
   inner_same u a' b' h k (leaf handed r) e f = absurd (two_not_tip _ _ (sym f))
   inner_same u a' b' h k (inner a b) e f =
       let (same, ka, kb) = stands.kids u a b h k e in
-      let left-same : renumber K.keep a ≡ a' = cc in
-      let right-same : renumber K.keep b ≡ b' = cc in
+      let left_same : renumber K.keep a ≡ a' = cc in
+      let right_same : renumber K.keep b ≡ b' = cc in
       let low : (w : ℕ) → Has w (kids_of (inner a b)) → w < n =
       λ w c. let below = table.legal.tree.below {v = u} {u = w} h
       (subst (λ x. Has w (kids_of x)) (sym same) c) in omega arith in
-      let own-left = original_own K.keep n a stands.marks (low a (inl refl)) ka in
-      let own-right = original_own K.keep n b stands.marks (low b (inr refl)) kb in
+      let own_left = original_own K.keep n a stands.marks (low a (inl refl)) ka in
+      let own_right = original_own K.keep n b stands.marks (low b (inr refl)) kb in
       ap kids_of same
-      ∙ ap₂ two (sym own-left ∙ ap (original K.keep n) left-same)
-      (sym own-right ∙ ap (original K.keep n) right-same)
+      ∙ ap₂ two (sym own_left ∙ ap (original K.keep n) left_same)
+      (sym own_right ∙ ap (original K.keep n) right_same)
 
   -- The piece sits in its table, in every column.
   pub piece_sits : (j : ℕ) → j < I.c → Sits (column (piece I K) j) (column I j) (piece_node I K)
@@ -222,8 +222,8 @@ module _ (I : Input) (table : Allowed I) (K : Choice) (top : ℕ) (stands : Stan
   handed_row j k x hj hk hx =
       let (inside, kept, number) = original_is (kept_handed K) n k (handed_marks I table K top stands) hk in
       let u = original (kept_handed K) n k in
-      let (one, is-tip) = product_one (K.keep u) (is_tip handed (K.node u)) (stands.marks.most u inside) kept in
-      let (q, e) = tip_handed (K.node u) is-tip in
+      let (one, tip_kept) = product_one (K.keep u) (is_tip handed (K.node u)) (stands.marks.most u inside) kept in
+      let (q, e) = tip_handed (K.node u) tip_kept in
       stands.rows j u q x hj inside one e hx
 
   -- The piece keeps the rules 1 to 5 and may be cut again.

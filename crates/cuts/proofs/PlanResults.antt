@@ -210,11 +210,11 @@ module _ {F : Column → ℕ → ℕ → ℕ} {free : Column → ℕ} {Call : In
       ∙ ap (λ z. F (column J j) (start_or start z) i) (work.same _ _ top) in
       let own = cut_above F work.down I ok v cut sent right j hj x f upper v (omega arith)
       (rest_own I ok.table v cut sent right) in
-      let start-below : May (part I v) j (Given (f v)) =
+      let start_below : May (part I v) j (Given (f v)) =
       subst (λ z. May (part I v) j (Given z)) (sym own) (work.lowers I ok j hj start fit v cut) in
       cut_down F work.down I ok v cut sent right j hj x f upper own
       (λ i hi. comes_right below (part I v) j (Given (f v)) (λ i. f (part_node I v i))
-      (again I ok (in_part I v) v in_part_lem) hj start-below lower i hi) u h
+      (again I ok (in_part I v) v in_part_lem) hj start_below lower i hi) u h
   comes_right (columns_at m first second) I j start f ok hj fit (within, side) v h =
       ⊎_elim
       (λ p. let low = p.0 in

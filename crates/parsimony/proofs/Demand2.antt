@@ -79,7 +79,7 @@ module _ (left right : List ℕ) (s : ℕ) (costs : List ℕ) (c : ℕ) (cells e
   pub column_set_from : (w : ℕ) → w < 2 ^ s → ((x : ℕ) → Member w x → row col (length left - 1) x ≡ barred → ⊥)
       → (v y : ℕ) → v ≤ length left - 1 → Member (sets_from col w v) y ↔ TakenFrom col w v y
   unfolding column_of
-  column_set_from w hw open-root v y h = set_from_exactly most_handed col sound w hw open-root v y h
+  column_set_from w hw open_root v y h = set_from_exactly most_handed col sound w hw open_root v y h
 
   -- with unit costs and no handed tips, counting by sets gives the same score and the same root set
   pub column_count : tips handed (node_at left right) (length left) ≡ 0 → UnitCosts s (cost_at s costs)
@@ -94,15 +94,15 @@ module _ (left right : List ℕ) (s : ℕ) (costs : List ℕ) (c : ℕ) (cells e
     where
       no_handed : (v k : ℕ) → v ≤ length left - 1 → node_at left right v ≡ leaf handed k → ⊥
       no_handed v k h e =
-          let inside-table : v < length left = let n = some_node in omega arith in
-          let w = row_within (length left) (node_at left right) legal.tree v inside-table handed k e in
+          let inside_table : v < length left = let n = some_node in omega arith in
+          let w = row_within (length left) (node_at left right) legal.tree v inside_table handed k e in
           omega arith
 
       cell_at_lem : (v r : ℕ) → v ≤ length left - 1 → node_at left right v ≡ leaf symbol r
           → r * c + j < tips symbol (node_at left right) (length left) * c
       cell_at_lem v r h e =
-          let inside-table : v < length left = let n = some_node in omega arith in
-          cell_place legal v inside-table c j r _ refl inside e
+          let inside_table : v < length left = let n = some_node in omega arith in
+          cell_place legal v inside_table c j r _ refl inside e
 
       tip_rows_lem : (v x : ℕ) → v ≤ length left - 1 → kids_at left right v ≡ tip → x < s
           → col.entry v x ≡ cell_entry (tip_cell (cell_at c cells j) (node_at left right v)) x

@@ -25,21 +25,21 @@ use Rattle.parsimony.proofs.Size.{
 module _ (most : ℕ) (P : Column) (sound : Sound most P) where
   -- an entry that is not barred is below the barred entry
   pub entry_fits : (v x : ℕ) → v ≤ P.last → x < P.states → (row P v x ≡ barred → ⊥) → row P v x < barred
-  entry_fits v x h hx open-entry =
+  entry_fits v x h hx open_entry =
       let r = bound_root P.last most P.kids sound.tree v h in
       let f = bound_fits most P sound in
-      ⊎_elim (λ small. omega arith) (λ bar. absurd (open-entry bar.1)) (row_range most P sound v x h hx)
+      ⊎_elim (λ small. omega arith) (λ bar. absurd (open_entry bar.1)) (row_range most P sound v x h hx)
 
   -- so is the sum of a change and such an entry of a child
   pub through_fits : (p u x y : ℕ) → p ≤ P.last → Has u (P.kids p) → x < P.states → y < P.states
       → (row P u y ≡ barred → ⊥) → P.cost x y + row P u y < barred
-  through_fits p u x y h c hx hy open-entry =
+  through_fits p u x y h c hx hy open_entry =
       let below = sound.tree.below h c in
       let q = bound_child P.last most P.kids sound.tree p u h c in
       let r = bound_root P.last most P.kids sound.tree p h in
       let f = bound_fits most P sound in
       let cheap = sound.cheap x y hx hy in
-      ⊎_elim (λ small. omega arith) (λ bar. absurd (open-entry bar.1)) (row_range most P sound u y (omega arith) hy)
+      ⊎_elim (λ small. omega arith) (λ bar. absurd (open_entry bar.1)) (row_range most P sound u y (omega arith) hy)
 
   -- and the sum of both children's least is the inner node's entry, and below the barred entry
   pub inner_fits : (v a b x : ℕ) → v ≤ P.last → P.kids v ≡ two a b → x < P.states
@@ -66,6 +66,6 @@ whole_most P sound v a b x h e hx =
 -- and those of its tips are 0 or barred
 pub whole_tip : (P : Column) → Sound 0 P → (v x : ℕ) → v ≤ P.last → P.kids v ≡ tip → x < P.states
     → (row P v x ≡ barred → ⊥) → row P v x ≡ 0
-whole_tip P sound v x h e hx open-entry =
+whole_tip P sound v x h e hx open_entry =
     let r = row_tip P sound.tree v x h e in
-    ⊎_elim (λ small. omega arith) (λ bar. absurd (open-entry (omega arith))) (sound.range v x h e hx)
+    ⊎_elim (λ small. omega arith) (λ bar. absurd (open_entry (omega arith))) (sound.range v x h e hx)

@@ -93,7 +93,7 @@ module _ (most : ℕ) (P : Column) (sound : Sound most P) where
 
     -- forced to a state that the root's row does not bar, it is least among the labellings with that root
     pub rule_forced : (x : ℕ) → x < P.states → (row P P.last x ≡ barred → ⊥) → LeastFrom P x (label_from rule P x)
-    rule_forced x hx open-root = label_from_least most P sound rule ties x hx open-root
+    rule_forced x hx open_root = label_from_least most P sound rule ties x hx open_root
 
     -- and costs exactly the root's entry there
     pub rule_forced_costs : (x : ℕ) → x < P.states → cost_of P (label_from rule P x) ≡ row P P.last x
@@ -178,8 +178,8 @@ module _ (most : ℕ) (P : Column) (sound : Sound most P) where
   -- the same among the labellings with the root in x
   from_tight : (x : ℕ) (l : ℕ → ℕ) → x < P.states → (row P P.last x ≡ barred → ⊥) → LeastFrom P x l
       → TightLabels P l
-  from_tight x l hx open-root least =
-      let best = least.least (label_from rule_in_use P x) (rule_forced rule_in_use in_use x hx open-root).agrees
+  from_tight x l hx open_root least =
+      let best = least.least (label_from rule_in_use P x) (rule_forced rule_in_use in_use x hx open_root).agrees
       (rule_root rule_in_use in_use x) in
       let c = rule_forced_costs rule_in_use in_use x hx in
       let e = ap (row P P.last) least.root in
@@ -187,9 +187,9 @@ module _ (most : ℕ) (P : Column) (sound : Sound most P) where
 
   tight_from : (l : ℕ → ℕ) → States P l → TightLabels P l → (row P P.last (l P.last) ≡ barred → ⊥)
       → LeastFrom P (l P.last) l
-  tight_from l states tight open-root =
+  tight_from l states tight open_root =
       record {
-        agrees = tight_agrees most P sound l states tight open-root;
+        agrees = tight_agrees most P sound l states tight open_root;
         root = refl;
         least = λ other agrees e.
             let c = tight_costs most P sound l states tight in
@@ -231,14 +231,14 @@ module _ (most : ℕ) (P : Column) (sound : Sound most P) where
         })),
   )
 
-  module _ (w : ℕ) (hw : w < 2 ^ P.states) (open-root : (x : ℕ) → Member w x → row P P.last x ≡ barred → ⊥) where
+  module _ (w : ℕ) (hw : w < 2 ^ P.states) (open_root : (x : ℕ) → Member w x → row P P.last x ≡ barred → ⊥) where
     -- from a start set of states that the root's row does not bar, a node's set holds a state exactly when, for some
     -- member x, some labelling least among those with the root in x takes it there
     pub set_from_exactly : (v y : ℕ) → v ≤ P.last → Member (sets_from P w v) y ↔ TakenFrom P w v y
     set_from_exactly v y h = (
       (λ m. let t : TightAt P w v y = sets_taken most P sound w hw v y h m in
           let l = t.labels in
-          let least = tight_from l t.states t.tight (open-root (l P.last) t.root) in
+          let least = tight_from l t.states t.tight (open_root (l P.last) t.root) in
           (l P.last, t.root, (l, least, t.takes))),
       (λ taken. let (x, mx, (l, least, e)) = taken in
           let rooted : Member w (l P.last) = subst (Member w) (sym least.root) mx in
@@ -248,7 +248,7 @@ module _ (most : ℕ) (P : Column) (sound : Sound most P) where
           (record {
             labels = l;
             states = least.agrees.states;
-            tight = from_tight x l hx (open-root x mx) least;
+            tight = from_tight x l hx (open_root x mx) least;
             root = rooted;
             takes = e;
           })),

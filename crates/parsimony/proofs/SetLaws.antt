@@ -112,10 +112,10 @@ module _ (most : ℕ) (P : Column) (sound : Sound most P) where
     turn_fresh : (q u x : ℕ) → q ≤ P.last → Has u (P.kids q) → (u ≡ v → ⊥) → (x ≡ l q → ⊥)
         → turn l v y u x ≡ choose rule_in_use P (row P u) x
     unfolding turn
-    turn_fresh q u x hq cq ne no-match =
+    turn_fresh q u x hq cq ne no_match =
         pick_false y _ (ne_eqb u v ne)
         ∙ pick_false (l u) _
-        (ne_eqb _ _ (λ e. no-match (e ∙ ap l (parent_is P.last P.kids sound.tree q u hq cq))))
+        (ne_eqb _ _ (λ e. no_match (e ∙ ap l (parent_is P.last P.kids sound.tree q u hq cq))))
 
     above : (q : ℕ) → q ≤ P.last → v < q → turned l v y q ≡ l q
     above = downward P.last (λ q. v < q → turned l v y q ≡ l q) go
@@ -149,7 +149,7 @@ module _ (most : ℕ) (P : Column) (sound : Sound most P) where
             (subst (λ z. z < P.states) (sym (turn_here (turned l v y r))) hy))
             (λ ne. by_eq (turned l v y r) (l r)
             (λ e. subst (λ z. z < P.states) (sym (turn_kept r q (turned l v y r) hr cr ne e)) (states q (omega arith)))
-            (λ no-match. subst (λ z. z < P.states) (sym (turn_fresh r q (turned l v y r) hr cr ne no-match))
+            (λ no_match. subst (λ z. z < P.states) (sym (turn_fresh r q (turned l v y r) hr cr ne no_match))
             (choose_state most P sound rule_in_use in_use q (turned l v y r))))
 
     turned_tight : TightLabels P (turned l v y)
@@ -171,8 +171,8 @@ module _ (most : ℕ) (P : Column) (sound : Sound most P) where
         (λ e. let lq : turned l v y q ≡ l q = meets.edge hr cr ∙ turn_kept r q (turned l v y r) hr cr ne e in
         subst (λ z. P.cost z (turned l v y q) + row P q (turned l v y q) ≡ up P (row P q) z) (sym e)
         (subst (λ z. P.cost (l r) z + row P q z ≡ up P (row P q) (l r)) (sym lq) (tight r q hr cr)))
-        (λ no-match. let lq : turned l v y q ≡ choose rule_in_use P (row P q) (turned l v y r) =
-        meets.edge hr cr ∙ turn_fresh r q (turned l v y r) hr cr ne no-match in
+        (λ no_match. let lq : turned l v y q ≡ choose rule_in_use P (row P q) (turned l v y r) =
+        meets.edge hr cr ∙ turn_fresh r q (turned l v y r) hr cr ne no_match in
         through_plain most P sound r q (turned l v y r) (turned l v y q) hr cr (turned_states r hr)
         (ap (through P (row P q) (turned l v y r)) lq
         ∙ choose_reaches most P sound rule_in_use in_use q (turned l v y r))))
@@ -206,17 +206,17 @@ module _ (most : ℕ) (P : Column) (sound : Sound most P) where
             let b = sound.tree.below hp c in
             let (hy, (x, hx, mx, reach)) = (child_member P (row P v) (sets_from P w p) y).0
             (subst (λ z. Member z y) (sets_meet.edge hp c) m) in
-            let above-v : TightAt P w p x = ih p b hp x mx in
-            let l = above-v.labels in
-            let reach-l : through P (row P v) (l p) y ≡ up P (row P v) (l p) =
-            subst (λ z. through P (row P v) z y ≡ up P (row P v) z) (sym above-v.takes) reach in
+            let above_v : TightAt P w p x = ih p b hp x mx in
+            let l = above_v.labels in
+            let reach_l : through P (row P v) (l p) y ≡ up P (row P v) (l p) =
+            subst (λ z. through P (row P v) z y ≡ up P (row P v) z) (sym above_v.takes) reach in
             record {
               labels = turned l v y;
-              states = turned_states l above-v.states above-v.tight p v y hp c hy reach-l;
-              tight = turned_tight l above-v.states above-v.tight p v y hp c hy reach-l;
+              states = turned_states l above_v.states above_v.tight p v y hp c hy reach_l;
+              tight = turned_tight l above_v.states above_v.tight p v y hp c hy reach_l;
               root = subst (λ z. Member w z)
-                  (sym (meets l above-v.states above-v.tight p v y hp c hy reach-l).root) above-v.root;
-              takes = turned_takes l above-v.states above-v.tight p v y hp c hy reach-l;
+                  (sym (meets l above_v.states above_v.tight p v y hp c hy reach_l).root) above_v.root;
+              takes = turned_takes l above_v.states above_v.tight p v y hp c hy reach_l;
             })
             (λ k. let e : v ≡ P.last = omega arith in
             let my : Member w y = subst (λ z. Member z y) (ap (sets_from P w) e ∙ sets_meet.root) m in

@@ -166,7 +166,7 @@ module _ (last : ℕ) (node : ℕ → Node) (rules : TreeRules (suc last) node) 
       let all : sum (λ p. is_tip symbol (node p) + is_tip handed (node p) + is_inner (node p)) (suc last) ≡ suc last =
       sum_same _ (λ p. 1) (suc last) (λ p h. one_kind (node p)) ∙ sum_ones (suc last) in
       let outer = sum_add (λ p. is_tip symbol (node p) + is_tip handed (node p)) (λ p. is_inner (node p)) (suc last) in
-      let tips-split = sum_add (λ p. is_tip symbol (node p)) (λ p. is_tip handed (node p)) (suc last) in
+      let tips_split = sum_add (λ p. is_tip symbol (node p)) (λ p. is_tip handed (node p)) (suc last) in
       omega arith
 
 module _ (n : ℕ) (node : ℕ → Node) where

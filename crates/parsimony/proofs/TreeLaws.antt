@@ -138,10 +138,10 @@ parent_found kids (suc n) u p h c =
     (λ y. let e : parent kids (suc n) u ≡ n =
     parent_suc kids n u ∙ pick_true n (parent kids n u) (has_true u (kids n) y) in
     (omega arith, subst (λ q. Has u (kids q)) (sym e) y))
-    (λ no-child. by_eq p n (λ e. absurd (no-child (subst (λ q. Has u (kids q)) e c)))
+    (λ no_child. by_eq p n (λ e. absurd (no_child (subst (λ q. Has u (kids q)) e c)))
     (λ ne. let rest = parent_found kids n u p (omega arith) c in
     let e : parent kids (suc n) u ≡ parent kids n u =
-    parent_suc kids n u ∙ pick_false n (parent kids n u) (has_false u (kids n) no-child) in
+    parent_suc kids n u ∙ pick_false n (parent kids n u) (has_false u (kids n) no_child) in
     let b = rest.0 in
     (omega arith, subst (λ q. Has u (kids q)) (sym e) rest.1)))
 
@@ -210,9 +210,9 @@ module _ (last : ℕ) (kids : ℕ → Kids) (rooted : Rooted last kids) (give : 
   unfolding descend_in
   descend_child levels p u h c =
       let b = rooted.below h c in
-      let no-root : eqb u last ≡ false = ne_eqb u last (λ e. omega arith) in
+      let no_root : eqb u last ≡ false = ne_eqb u last (λ e. omega arith) in
       let step : descend_in last kids give start (suc levels) u
-      ≡ give u (descend_in last kids give start levels (parent kids (suc last) u)) = rw (no-root, descend_in) in
+      ≡ give u (descend_in last kids give start levels (parent kids (suc last) u)) = rw (no_root, descend_in) in
       step ∙ ap (λ q. give u (descend_in last kids give start levels q)) (parent_is last kids rooted p u h c)
 
   descend_levels : (v : ℕ) → v ≤ last → (m n : ℕ) → last < v + m → last < v + n

@@ -18,8 +18,8 @@ abbrev pub Below : ℕ → ℕ → Type 0
 Below n i = i < n
 
 -- n places from a place on
-abbrev pub Between : ℕ → ℕ → ℕ → Type 0
-Between at n i = (at ≤ i) × (i < at + n)
+abbrev pub InRun : ℕ → ℕ → ℕ → Type 0
+InRun at n i = (at ≤ i) × (i < at + n)
 
 -- each of the first n entries is right for its place
 abbrev pub Each : ℕ → (ℕ → ℕ → Type 0) → (ℕ → ℕ) → Type 0
@@ -31,4 +31,4 @@ Run at n f e = (i : ℕ) → i < n → e (at + i) ≡ f i
 
 -- they were written, and nothing else
 abbrev pub Wrote : ℕ → ℕ → (ℕ → ℕ) → List ℕ → List ℕ → Type 0
-Wrote at n f = Written (Between at n) (Run at n f)
+Wrote at n f = Written (InRun at n) (Run at n f)

@@ -102,10 +102,10 @@ row_entry : (P : Column) → Sound most_handed P → (x : ℕ) → x < P.states 
 row_entry P sound x hx =
     record {
       small = by_eq (row P P.last x) barred (λ e. omega arith)
-          (λ open-root. let f = entry_fits most_handed P sound P.last x (omega arith) hx open-root in omega arith);
-      reached = λ open-root. (
+          (λ open_root. let f = entry_fits most_handed P sound P.last x (omega arith) hx open_root in omega arith);
+      reached = λ open_root. (
         label_from rule_in_use P x,
-        rule_forced most_handed P sound rule_in_use in_use x hx open-root,
+        rule_forced most_handed P sound rule_in_use in_use x hx open_root,
         rule_forced_costs most_handed P sound rule_in_use in_use x hx,
       );
       shut = λ bar l agrees e. ⊎_elim

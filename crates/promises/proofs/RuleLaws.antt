@@ -118,8 +118,8 @@ none_handed s c h e =
     let rows : c * h ≡ 0 = ap (λ k. c * k) e ∙ mul-zero c in
     record {
       count = sym places;
-      range = λ i i-in. absurd (omega arith);
-      unbarred = λ i i-in. absurd (omega arith);
+      range = λ i i_in. absurd (omega arith);
+      unbarred = λ i i_in. absurd (omega arith);
     }
 
 -- so the rules 1 to 4 give an allowed table there

@@ -69,11 +69,11 @@ module _ (I : Input) (table : Allowed I) where
     root_symbol r x e =
         let same = root_leaf (leaf symbol r) x e refl in
         let agrees = symbol_agrees (cell_at I.c I.cells j r) x in
-        ((λ m bar. agrees.1 m (sym same ∙ bar)), (λ open-root. agrees.0 (λ bar. open-root (same ∙ bar))))
+        ((λ m bar. agrees.1 m (sym same ∙ bar)), (λ open_root. agrees.0 (λ bar. open_root (same ∙ bar))))
 
     -- a handed tip as root bars what its handed row bars
     pub root_handed : (k x : ℕ) → node_in I (nodes I - 1) ≡ leaf handed k
         → (handed_at I.s (tips_in handed I) I.handed j k x ≡ barred → ⊥) ↔ OpenRoot I j x
     root_handed k x e =
         let same = root_leaf (leaf handed k) x e refl in
-        ((λ n bar. n (sym same ∙ bar)), (λ open-root bar. open-root (same ∙ bar)))
+        ((λ n bar. n (sym same ∙ bar)), (λ open_root bar. open_root (same ∙ bar)))

@@ -55,7 +55,7 @@ module _ (I : Input) (table : Allowed I) (inside : 0 < I.c) where
       let n = table.legal.size.most in
       let ones = one_states I.s (sets P) (nodes I) in
       let most = ones_most I.s (sets P) (nodes I) in
-      let open-score = score_open most_handed P (table_sound I table 0 inside) in
+      let open_score = score_open most_handed P (table_sound I table 0 inside) in
       let parts = line_length number (score P) (quiet_mark I.cells) ones (letters (label P) (nodes I)) in
       let a = field_length number in
       let b = field_length (score P) in

@@ -39,9 +39,9 @@ two_marks f most (suc n) two =
     let more = sum_suc f n in
     let top = most n in
     by_lt (f n) 1
-    (λ none. let (x, y, below, in-range, fx, fy) = two_marks f most n (omega arith) in
+    (λ none. let (x, y, below, in_range, fx, fy) = two_marks f most n (omega arith) in
     (x, y, below, omega arith, fx, fy))
-    (λ marked. let (x, in-range, fx) = sum_some f n (omega arith) in (x, n, in-range, omega arith, fx, marked))
+    (λ marked. let (x, in_range, fx) = sum_some f n (omega arith) in (x, n, in_range, omega arith, fx, marked))
 
 -- not quiet: two bases
 pub quiet_means : (cells : List ℕ) → (quiet_mark cells ≡ 0) ↔ TwoBases cells
@@ -49,11 +49,11 @@ unfolding quiet_mark
 quiet_means cells = (
   (λ loud. by_lt (sum (often cells) 4) 2
       (λ few. absurd (let mark = pick_true {A = ℕ} 1 0 (lt-ltb (sum (often cells) 4) 2 few) in omega arith))
-      (λ many. let (x, y, below, in-range, fx, fy) = two_marks (often cells) (often_most cells) 4 many in
-      (x, y, below, in-range, often_means cells x fx, often_means cells y fy))),
-  (λ (x, y, below, in-range, tx, ty). let first = often_yes cells x refl refl tx in
+      (λ many. let (x, y, below, in_range, fx, fy) = two_marks (often cells) (often_most cells) 4 many in
+      (x, y, below, in_range, often_means cells x fx, often_means cells y fy))),
+  (λ (x, y, below, in_range, tx, ty). let first = often_yes cells x refl refl tx in
       let second = often_yes cells y refl refl ty in
-      let both = sum_two (often cells) 4 x y below in-range in
+      let both = sum_two (often cells) 4 x y below in_range in
       pick_false {A = ℕ} 1 0 (le-ltb (sum (often cells) 4) 2 (omega arith))),
 )
 

@@ -68,8 +68,8 @@ module _ (sheet : List ℕ) (s : Sheet) (answer : Read) (table' : List (List ℕ
       let rules : TableRules has.costs =
       subst TableRules (sym from.costs) (sheet_read sheet from.sections from.reading).rest.priced in
       let few = (sheet_legal sheet has from).size.most in
-      let long-left = lefts_long vine 0 in
-      let long-right = rights_long vine 0 in
+      let long_left = lefts_long vine 0 in
+      let long_right = rights_long vine 0 in
       record {
         is = holds.is;
         tips = holds.tips;
@@ -77,9 +77,9 @@ module _ (sheet : List ℕ) (s : Sheet) (answer : Read) (table' : List (List ℕ
         cells = holds.cells;
         nodes = holds.nodes;
         priced = flat_same has.costs costs rules (subst (λ t. Flat t costs) holds.priced flatly);
-        lefts = first_put s.nodes left left' (lefts vine 0) (holds.nodes ∙ sym long-left) holds.lefts (omega
+        lefts = first_put s.nodes left left' (lefts vine 0) (holds.nodes ∙ sym long_left) holds.lefts (omega
             arith);
-        rights = first_put s.nodes right right' (rights vine 0) (holds.nodes ∙ sym long-right) holds.rights
+        rights = first_put s.nodes right right' (rights vine 0) (holds.nodes ∙ sym long_right) holds.rights
             (omega arith);
       }
 

@@ -196,11 +196,11 @@ module _ (sheet : List ℕ) (left right left' right' : List ℕ) where
     unfolding on_reading
     sheet_tree s answer names names₁ places table table₁ r gives is four same tree =
         let costs = (sheet_of sheet).rest.costs in
-        let at_Names = same ∙ sections_names sheet answer names names₁ table table₁ gives s is in
+        let at_names = same ∙ sections_names sheet answer names names₁ table table₁ gives s is in
         let priced = sections_costs sheet answer names names₁ table table₁ gives s is four in
         let told : judge sheet ≡ tree_line sheet places costs s =
         to_sections
         ∙ ap (λ a. on_reading a (tree_line sheet (sheet_of sheet).names costs)) (sym gives.rest.said ∙ is)
-        ∙ ap (λ n. tree_line sheet n costs s) (sym at_Names) in
+        ∙ ap (λ n. tree_line sheet n costs s) (sym at_names) in
         subst (λ t. GivesSheet (judge sheet) r t left right left' right') (sym priced)
         (subst (λ j. GivesSheet j r costs left right left' right') (sym told) (tree.tree costs))

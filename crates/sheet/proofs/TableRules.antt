@@ -89,8 +89,8 @@ module _ (sheet : List ℕ) (has : Contents) (from : SoundFrom sheet has) where
       has.vine from.stop from.marks from.tree
 
   -- its costs keep the rules
-  pub sheet_costs : CostRules 4 (flat has.costs)
-  sheet_costs =
+  pub sheet_costs_lem : CostRules 4 (flat has.costs)
+  sheet_costs_lem =
       let rules = subst TableRules (sym from.costs) read.rest.priced in
       flat_rules has.costs (flat has.costs) rules (flat_is has.costs rules)
 
@@ -140,7 +140,7 @@ module _ (sheet : List ℕ) (has : Contents) (from : SoundFrom sheet has) where
   sheet_allowed j hj =
       record {
         legal = sheet_legal;
-        costs = sheet_costs;
+        costs = sheet_costs_lem;
         cells = sheet_cells j hj;
         handed = none_handed 4 1 (tips_in handed (table_of sheet has j)) (sheet_handed j);
       }

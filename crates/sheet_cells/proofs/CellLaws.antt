@@ -114,13 +114,13 @@ cells_read t sheet at line c cells next e = by_count (count_of (bytes "columns "
         → on_part p NoCells (Cells n from) ≡ Cells c cells next → CellsRead sheet t c cells next
     by_part n from counted (Wrong f) r h = let z : ◌≡◌ {A = ℕ} 0 1 = cc in absurd (omega arith)
     by_part n from counted (Read i) r h =
-        let same-c : n ≡ c = cc in
-        let same-cells : from ≡ cells = cc in
+        let same_c : n ≡ c = cc in
+        let same_cells : from ≡ cells = cc in
         let same_next : i ≡ next = cc in
         let rows = rows_read sheet n t from (line + 1) i [] r in
         let count = count_read (bytes "columns ") 0 65535 sheet at line n from counted in
-        subst (λ k. CellsRead sheet t k cells next) same-c
-        (subst (λ k. CellsRead sheet t n k next) same-cells
+        subst (λ k. CellsRead sheet t k cells next) same_c
+        (subst (λ k. CellsRead sheet t n k next) same_cells
         (subst (λ k. CellsRead sheet t n from k) same_next
         (record { columns = count.small; after = rows.0; rows = rows.1 })))
 

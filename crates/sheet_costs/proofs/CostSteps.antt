@@ -49,7 +49,7 @@ module _ (sheet : List ℕ) (earlier : List (List ℕ)) (x at line : ℕ) (answe
   pub cost_read : (a b c d next : ℕ) → answer ≡ Costs a b c d next → {i j k l : ℕ} → i ≡ a → j ≡ b → k ≡ c → l ≡ d
       → cost_judge sheet earlier at line ≡ item (i ∷ j ∷ k ∷ l ∷ []) next
   unfolding cost_judge cost_item
-  cost_read a b c d next e i-is j-is k-is l-is = rw (state, i-is, j-is, k-is, l-is) (sym judged ∙ ap cost_item e)
+  cost_read a b c d next e i_is j_is k_is l_is = rw (state, i_is, j_is, k_is, l_is) (sym judged ∙ ap cost_item e)
 
 -- the count of the costs, by the number that is read
 module _ (sheet : List ℕ) (at line : ℕ) (answer : Count)

@@ -55,8 +55,8 @@ field_read most stop sheet at n next e = by_number (number_at most sheet at) ref
         (λ h. by_eq (get_or sheet i 0) stop
         (λ same.
         let w = field_whole most stop sheet at m i r h same ∙ e in
-        let n-is : m ≡ n = cc in
-        let next-is : i + 1 ≡ next = cc in
+        let n_is : m ≡ n = cc in
+        let next_is : i + 1 ≡ next = cc in
         let low = number_most most sheet at m i r in
         record { small = omega arith; inside = omega arith })
         (λ other. no_value (field_other most stop sheet at m i r h other) e))
@@ -79,8 +79,8 @@ count_read word least most sheet at line n next e = by_word (word_of word sheet 
         by_lt m least (λ h. no_count (count_few word least most sheet at line digits m i w f h) e)
         (λ h.
         let c = count_whole word least most sheet at line digits m i w f h ∙ e in
-        let n-is : m ≡ n = cc in
-        let next-is : i ≡ next = cc in
+        let n_is : m ≡ n = cc in
+        let next_is : i ≡ next = cc in
         let read = field_read most 10 sheet digits m i f in
         record {
           enough = omega arith;

@@ -109,9 +109,9 @@ names_refused sheet n at line f e =
       wrong = λ end name different.
           let ends = line_found sheet failed.place end name.line in
           let name_line = name_line_found sheet failed.place end name in
-          let is-new = new_found sheet names failed.place (λ k h. old failed.place end name different k h) in
+          let is_new = new_found sheet names failed.place (λ k h. old failed.place end name different k h) in
           no_item refl
-          (sym (name_whole sheet names failed.place (line + length names) end ends name_line is-new ∙ failed.unfair));
+          (sym (name_whole sheet names failed.place (line + length names) end ends name_line is_new ∙ failed.unfair));
     }
   where
     names : List ℕ

@@ -41,7 +41,7 @@ module _ (node : ℕ → Node) where
       ≡ at u 1 (n + vine_nodes a - 1) + at u 1 (n + vine_nodes a + vine_nodes b - 1) =
       ap (λ x. each (at u 1) (kids_of x)) here in
       let left_other = at_other u 1 (n + vine_nodes a - 1) (λ e. out (omega arith) (omega arith)) in
-      let right-other = at_other u 1 (n + vine_nodes a + vine_nodes b - 1) (λ e. out (omega arith) (omega arith)) in
+      let right_other = at_other u 1 (n + vine_nodes a + vine_nodes b - 1) (λ e. out (omega arith) (omega arith)) in
       omega arith
 
   pub stood_used : (v : Vine) (n u : ℕ) → Stood node v n → n ≤ u → suc u < n + vine_nodes v
@@ -57,27 +57,27 @@ module _ (node : ℕ → Node) where
       ≡ at u 1 (n + vine_nodes a - 1) + at u 1 (n + vine_nodes a + vine_nodes b - 1) =
       ap (λ x. each (at u 1) (kids_of x)) here in
       by_lt (suc u) (n + vine_nodes a)
-      (λ in-a. let one = stood_used a n u sa from in-a in
+      (λ in_a. let one = stood_used a n u sa from in_a in
       let two = stood_unused b (n + vine_nodes a) u sb (λ h k. omega arith) in
       let left_other = at_other u 1 (n + vine_nodes a - 1) (λ e. omega arith) in
-      let right-other = at_other u 1 (n + vine_nodes a + vine_nodes b - 1) (λ e. omega arith) in
+      let right_other = at_other u 1 (n + vine_nodes a + vine_nodes b - 1) (λ e. omega arith) in
       omega arith)
-      (λ after-a. by_eq u (n + vine_nodes a - 1)
+      (λ after_a. by_eq u (n + vine_nodes a - 1)
       (λ e. let one = stood_unused a n u sa (λ h k. omega arith) in
       let two = stood_unused b (n + vine_nodes a) u sb (λ h k. omega arith) in
-      let left-same = at_same u 1 (n + vine_nodes a - 1) e in
-      let right-other = at_other u 1 (n + vine_nodes a + vine_nodes b - 1) (λ p. omega arith) in
+      let left_same = at_same u 1 (n + vine_nodes a - 1) e in
+      let right_other = at_other u 1 (n + vine_nodes a + vine_nodes b - 1) (λ p. omega arith) in
       omega arith)
       (λ ne. by_lt (suc u) (n + vine_nodes a + vine_nodes b)
       (λ in_b. let one = stood_unused a n u sa (λ h k. omega arith) in
       let two = stood_used b (n + vine_nodes a) u sb (omega arith) in_b in
       let left_other = at_other u 1 (n + vine_nodes a - 1) ne in
-      let right-other = at_other u 1 (n + vine_nodes a + vine_nodes b - 1) (λ e. omega arith) in
+      let right_other = at_other u 1 (n + vine_nodes a + vine_nodes b - 1) (λ e. omega arith) in
       omega arith)
-      (λ after-b. let one = stood_unused a n u sa (λ h k. omega arith) in
+      (λ after_b. let one = stood_unused a n u sa (λ h k. omega arith) in
       let two = stood_unused b (n + vine_nodes a) u sb (λ h k. omega arith) in
       let left_other = at_other u 1 (n + vine_nodes a - 1) ne in
-      let right-same = at_same u 1 (n + vine_nodes a + vine_nodes b - 1) (omega arith) in
+      let right_same = at_same u 1 (n + vine_nodes a + vine_nodes b - 1) (omega arith) in
       omega arith)))
 
   -- an inner node's children are below it, and different

@@ -151,8 +151,8 @@ module _ (sheet names : List ℕ) (t : ℕ) (named : t ≤ length names) (differ
       let (ends, row) = name_reads sheet names t i e q named different dv se in
       let (ends', row') = name_reads sheet names t i f r named different dw sf in
       let same : e ≡ f = sym ends ∙ ends' in
-      let q-r : q ≡ r = at_place (sym row ∙ ap (row_named sheet names t i) same ∙ row') in
-      (ap tip q-r, same)
+      let q_r : q ≡ r = at_place (sym row ∙ ap (row_named sheet names t i) same ∙ row') in
+      (ap tip q_r, same)
   denotes_unique (tip q) (pair c d) i e f dv dw se sf = absurd (name_open q i e dv dw.opened)
   denotes_unique (pair a b) (tip r) i e f dv dw se sf = absurd (name_open r i f dw dv.opened)
   denotes_unique (pair a b) (pair c d) i e f dv dw se sf =

@@ -78,7 +78,7 @@ module _ (sheet : List ℕ) (i e place : ℕ) where
           → (after : List ℕ) × (drop place sheet ≡ text_of sheet i e ++ (10 ∷ after))
       go Nowhere w g = absurd (let z : ◌≡◌ {A = ℕ} 0 1 = cc in omega arith)
       go (At stop) w g =
-          let (rest, same, at-stop) = word_begins (text_of sheet i e) (drop place sheet) place stop w in
+          let (rest, same, at_stop) = word_begins (text_of sheet i e) (drop place sheet) place stop w in
           let byte = eqb-true (get_or sheet stop 0) 10 g in
           let first : get_or rest 0 0 ≡ 10 =
           sym (get_or-append-add (text_of sheet i e) rest 0 0)

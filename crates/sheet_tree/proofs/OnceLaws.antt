@@ -86,7 +86,7 @@ module _ (sheet names : List ℕ) (t : ℕ) (few : t ≤ 512) (named : t ≤ len
           rows = subst (Rows t) (sym from.is) (one.rows, two.rows);
           adds = λ r. let p = one.adds r in
               let q = two.adds r in
-              let both-occur : occurs r vine ≡ occurs r from.a + occurs r from.b = ap (occurs r) from.is in
+              let both_occur : occurs r vine ≡ occurs r from.a + occurs r from.b = ap (occurs r) from.is in
               omega arith;
         },
         known₂,

@@ -27,7 +27,7 @@ module _ (node : ℕ → Node) where
   stood_tips (tip r) n st =
       let one : over (λ p. is_tip symbol (node p)) n (vine_nodes (tip r)) ≡ 1 =
       over_one (λ p. is_tip symbol (node p)) n r ∙ ap (is_tip symbol) st in
-      let size-one = size_tip r in
+      let size_one = size_tip r in
       omega arith
   stood_tips (pair a b) n (sa, (sb, here)) =
       let total = over_pair (λ p. is_tip symbol (node p)) n a b in

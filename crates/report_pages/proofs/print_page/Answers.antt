@@ -31,18 +31,18 @@ overflow_add-all c =
 pub loop-next-preserved : goal.loop-next-preserved
 loop-next-preserved c =
     let turn = c.loop-next in
-    let kept-page = c.put_line-put.auto.page in
-    let Kept-line = c.put_line-put.auto.line in
-    let kept-rows = c.put_line-put.auto.rows in
-    let Kept-sets = c.put_line-put.auto.sets in
-    let kept-states = c.put_line-put.auto.states in
+    let kept_page = c.put_line-put.auto.page in
+    let kept_line = c.put_line-put.auto.line in
+    let kept_rows = c.put_line-put.auto.rows in
+    let kept_sets = c.put_line-put.auto.sets in
+    let kept_states = c.put_line-put.auto.states in
     let holds = turn.invariant.0 in (
       turn_more _ _ _ _ _ _ _ _ _ _ _ _ _ _ _ _ _ c.requires.printable_from holds c.loop-next-test.true _ _ _ _ _ _ _ _ _
           c.put_line-put.ensures.0 (omega arith)
-          (room_kept _ _ _ _ _ _ _ _ _ _ _ _ holds.room c.put_line-put.ensures.1 kept-states Kept-sets kept-rows
-          Kept-line) (Kept-line ∙ holds.long) kept-page c.put_line-put.ensures.2,
-      kept-states ∙ turn.invariant.1,
-      Kept-sets ∙ turn.invariant.2,
-      kept-rows ∙ turn.invariant.3,
-      Kept-line ∙ turn.invariant.4,
+          (room_kept _ _ _ _ _ _ _ _ _ _ _ _ holds.room c.put_line-put.ensures.1 kept_states kept_sets kept_rows
+          kept_line) (kept_line ∙ holds.long) kept_page c.put_line-put.ensures.2,
+      kept_states ∙ turn.invariant.1,
+      kept_sets ∙ turn.invariant.2,
+      kept_rows ∙ turn.invariant.3,
+      kept_line ∙ turn.invariant.4,
     )

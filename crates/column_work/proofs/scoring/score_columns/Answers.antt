@@ -11,8 +11,8 @@ pub loop-j-preserved : goal.loop-j-preserved
 loop-j-preserved c =
     let table : Input = input c.args.left.now c.args.right.now c.args.s c.args.costs.now c.args.c
     c.args.cells.now c.args.handed.now in
-    let loop-here = c.loop-j in
-    let turn = loop-here in
+    let loop_here = c.loop-j in
+    let turn = loop_here in
     let parts = score_parts table _ _ c.requires.all in (
       omega arith,
       scores_more table turn.j c.score_column.result _ _ _ _ _ turn.invariant.1
