@@ -8,7 +8,8 @@ use native.Mathlib.Omega.{arith}
 use lib.ListN.{length, get_or, set, length-set}
 use lib.Seq.{get_or-set_same, get_or-set_other}
 use Rattle.parsimony.specs.Allowed.{CostRules}
-use Rattle.parsimony.specs.Table.{Kind, Node, leaf, inner, kids_of}
+use Rattle.parsimony.specs.Table.{Kind, Node, Legal, leaf, inner, kids_of, node_at}
+use Rattle.parsimony.proofs.LegalLaws.{legal_below}
 use Rattle.parsimony.proofs.Order.{by_eq}
 use Rattle.parsimony.proofs.TieLaws.{in_use}
 use Rattle.row_step.specs.Lane.{lane}
@@ -20,6 +21,11 @@ unfolding chosen
 chosen_low {s} {costs} rules rows u x =
     let few = rules.fewest in
     (in_use.ties s x (lane costs (x * s) rows (u * s)) (omega arith)).within
+
+-- an inner node's children are nodes
+pub kids_inside : {left right : List ℕ} {v a b : ℕ} → Legal left right → v < length left → inner a b ≡ node_at left right v
+    → (a < length left) × (b < length left)
+kids_inside legal there node = let (below_a, below_b) = legal_below legal there node in (omega arith, omega arith)
 
 -- a tip leaves the list as it is
 pub passed_leaf : {node : Node} {give : ℕ → ℕ → ℕ} {x r : ℕ} {l : List ℕ} (k : Kind) → leaf k r ≡ node

@@ -1,6 +1,5 @@
 -- `child_set` meets its contract. The loop's invariant: the set has the states that reach the least under a parent's
--- state below x, and from is the place of row x of the costs. The measure is what is left of the states. Assumes
--- nothing.
+-- state below x, and from is the place of row x of the costs. The measure is what is left of the states.
 -- Assumes nothing.
 use mathlib.Core.Path.{◌≡◌, sym, ap, ap₂, ◌∙◌}
 use Prim.Native.Nat.{suc, ◌+◌, ◌*◌}

@@ -1,6 +1,5 @@
 -- `fill_prelims` meets its contract. The loop's invariant: the sets of the nodes below v, and nothing else, are
--- written, and the changes counted at these nodes are summed. The measure is what is left of the nodes. Assumes
--- nothing.
+-- written, and the changes counted at these nodes are summed. The measure is what is left of the nodes.
 -- Assumes nothing.
 use Prim.Native.Nat.{◌+◌}
 use Rattle.counts_up.proofs.CountSteps.{sets_none, sets_more, sets_all, changes_none, changes_more, changes_most, changes_root}

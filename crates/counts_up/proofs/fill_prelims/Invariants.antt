@@ -1,6 +1,5 @@
 -- `fill_prelims` meets its contract. The loop's invariant: the sets of the nodes below v, and nothing else, are
--- written, and the changes counted at these nodes are summed. The measure is what is left of the nodes. Assumes
--- nothing.
+-- written, and the changes counted at these nodes are summed. The measure is what is left of the nodes.
 -- Assumes nothing.
 use mathlib.Core.Path.{◌≡◌}
 use Prim.Native.Nat.{◌-◌, ◌≤◌}

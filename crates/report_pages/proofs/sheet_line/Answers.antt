@@ -24,44 +24,39 @@ put_cells-requires c = (
 )
 
 pub slice_bounds-column_line-end : goal.slice_bounds-column_line-end
-slice_bounds-column_line-end c = (let few = (printable_nodes _ _ _ _ _ _ c.requires.printable).0 in let long = c.requires.room.left_long in omega arith)
+slice_bounds-column_line-end c =
+    let few = (printable_nodes _ _ _ _ _ _ c.requires.printable).0 in
+    let long = c.requires.room.left_long in
+    omega arith
 
 pub slice_bounds-column_line-end-3 : goal.slice_bounds-column_line-end-3
-slice_bounds-column_line-end-3 c = (let few = (printable_cells _ _ _ _ _ _ c.requires.printable).0 in let long = c.put_cells.ensures.long in omega arith)
+slice_bounds-column_line-end-3 c =
+    let few = (printable_cells _ _ _ _ _ _ c.requires.printable).0 in
+    let long = c.put_cells.ensures.long in
+    omega arith
 
 pub column_line-requires-clause-allowed : goal.column_line-requires-clause-allowed
 column_line-requires-clause-allowed c =
-    let after = c.put_cells.new.cells in
-    let asked = c.requires.room.left_long in
-    let few = (printable_nodes _ _ _ _ _ _ c.requires.printable).0 in
-    let left2 = c.args.left.now in
-    let s2 = c.args.s.nodes in
     subst Allowed
-    (sym (printable_table _ _ _ _ _ _ c.requires.printable _ _ _ (part_first left2 s2)
-    (part_first c.args.right.now s2)
-    (part_first after c.args.s.tips
+    (sym (printable_table _ _ _ _ _ _ c.requires.printable _ _ _ (part_first c.args.left.now c.args.s.nodes)
+    (part_first c.args.right.now c.args.s.nodes)
+    (part_first c.put_cells.new.cells c.args.s.tips
     ∙ put_cells_are _ _ _ _ _ _ c.requires.printable _ c.put_cells.ensures.long c.put_cells.ensures)))
     (printable_allowed _ _ _ _ _ _ c.requires.printable)
 
 pub column_line-requires-clause-number_bound : goal.column_line-requires-clause-number_bound
-column_line-requires-clause-number_bound c =
-    let after = c.put_cells.new.cells in
-    let asked = c.requires.room.left_long in
-    let few = (printable_nodes _ _ _ _ _ _ c.requires.printable).0 in
-    let left2 = c.args.left.now in
-    let s2 = c.args.s.nodes in
-    ((printable_nodes _ _ _ _ _ _ c.requires.printable).1, c.requires.room.line_room)
+column_line-requires-clause-number_bound c = (
+  (printable_nodes _ _ _ _ _ _ c.requires.printable).1,
+  c.requires.room.line_room,
+)
 
 pub returns : goal.returns
-returns c =
-    let after = c.put_cells.new.cells in
-    let told = c.put_cells.ensures.long in
-    let s2 = c.args.s.nodes in (
-      printable_line _ _ _ _ _ _ c.requires.printable _
-          (printable_table _ _ _ _ _ _ c.requires.printable _ _ _ (part_first c.args.left.now s2)
-          (part_first c.args.right.now s2)
-          (part_first after c.args.s.tips
-          ∙ put_cells_are _ _ _ _ _ _ c.requires.printable _ told c.put_cells.ensures)) _ _ _ _ _ _ _ _ _ _
-          c.column_line.ensures,
-      told,
-    )
+returns c = (
+  printable_line _ _ _ _ _ _ c.requires.printable _
+      (printable_table _ _ _ _ _ _ c.requires.printable _ _ _ (part_first c.args.left.now c.args.s.nodes)
+      (part_first c.args.right.now c.args.s.nodes)
+      (part_first c.put_cells.new.cells c.args.s.tips
+      ∙ put_cells_are _ _ _ _ _ _ c.requires.printable _ c.put_cells.ensures.long c.put_cells.ensures))
+      _ _ _ _ _ _ _ _ _ _ c.column_line.ensures,
+  c.put_cells.ensures.long,
+)

@@ -1,15 +1,8 @@
 -- `pass_state` meets its contract: a tip leaves the list as it is, an inner node stores its children's values.
 -- Assumes nothing.
-use Rattle.std.proofs.Common.{List, ◌≡◌, ℕ, ◌<◌, length, length-set, arith}
-use Rattle.parsimony.specs.Table.{Legal, inner, node_at}
-use Rattle.parsimony.proofs.LegalLaws.{legal_below}
-use Rattle.walk_down.proofs.PassSteps.{passed_inner}
+use Rattle.std.proofs.Common.{length-set, arith}
+use Rattle.walk_down.proofs.PassSteps.{kids_inside, passed_inner}
 use Rattle.walk_down.proofs.pass.pass_state.Goals as goal
-
--- an inner node's children are nodes
-kids_inside : {left right : List ℕ} {v a b : ℕ} → Legal left right → v < length left → inner a b ≡ node_at left right v
-    → (a < length left) × (b < length left)
-kids_inside legal there node = let (below_a, below_b) = legal_below legal there node in (omega arith, omega arith)
 
 pub child_state-requires-clause-calm : goal.child_state-requires-clause-calm
 child_state-requires-clause-calm c =
