@@ -42,6 +42,7 @@ fn crates() -> BTreeSet<String> {
 
 const KEYWORDS: &[&str] = &[
     "pub", "pub(crate)", "abbrev", "unfoldable", "record", "data", "extern", "\"C\"", "fn", "const", "enum", "struct",
+    "trait",
     "type",
 ];
 

@@ -8,8 +8,8 @@ use Rattle.promises.specs.Answers.{number_of, carried_by, Given}
 use Rattle.promises.specs.CallRules.{size_rule}
 use Rattle.promises.specs.Input.{Input}
 use Rattle.promises.specs.Rules.{Rule}
-use Rattle.promises.specs.declared.Answer.{Answer}
-use Rattle.promises.specs.declared.Answer.TheVariants.{Done, Refused}
+use Rattle.promises.specs.Answers.{Answer}
+use Rattle.std.specs.Prelude.{Ok, Err}
 use Rattle.promises.specs.declared.Refusal.TheVariants.{Size, Shape, Costs, Cells, Rows, Which, NotUnit, Room}
 use Rattle.promises.proofs.RuleLaws.{first_past}
 use Rattle.answer_codes.specs.Codes.{packed, answer_code}
@@ -24,15 +24,15 @@ packed_carried number carried small = omega arith
 
 -- every number is small
 pub number_small : (a : Answer) → number_of a < 256
-number_small Done = omega arith
-number_small (Refused Size) = omega arith
-number_small (Refused (Shape v)) = omega arith
-number_small (Refused Costs) = omega arith
-number_small (Refused Cells) = omega arith
-number_small (Refused Rows) = omega arith
-number_small (Refused Which) = omega arith
-number_small (Refused NotUnit) = omega arith
-number_small (Refused Room) = omega arith
+number_small (Ok u) = omega arith
+number_small (Err Size) = omega arith
+number_small (Err (Shape v)) = omega arith
+number_small (Err Costs) = omega arith
+number_small (Err Cells) = omega arith
+number_small (Err Rows) = omega arith
+number_small (Err Which) = omega arith
+number_small (Err NotUnit) = omega arith
+number_small (Err Room) = omega arith
 
 -- so an answer's number and what it carries are read back from its code
 pub code_number : (a : Answer) → answer_code a % 256 ≡ number_of a
@@ -43,15 +43,15 @@ code_carried a = packed_carried (number_of a) (carried_by a) (number_small a)
 
 -- under rules that begin with SIZE's, what an answer carries is below 1,023
 pub carried_small : (I : Input) (more : List Rule) (a : Answer) → Given (size_rule I ∷ more) I a → carried_by a < 1023
-carried_small I more Done g = omega arith
-carried_small I more (Refused Size) g = omega arith
-carried_small I more (Refused (Shape v)) g =
+carried_small I more (Ok u) g = omega arith
+carried_small I more (Err Size) g = omega arith
+carried_small I more (Err (Shape v)) g =
     let within = g.given.1.within in
     let most = (first_past (size_rule I) more 2 g.given.0 (λ same. omega arith)).most in
     omega arith
-carried_small I more (Refused Costs) g = omega arith
-carried_small I more (Refused Cells) g = omega arith
-carried_small I more (Refused Rows) g = omega arith
-carried_small I more (Refused Which) g = omega arith
-carried_small I more (Refused NotUnit) g = omega arith
-carried_small I more (Refused Room) g = omega arith
+carried_small I more (Err Costs) g = omega arith
+carried_small I more (Err Cells) g = omega arith
+carried_small I more (Err Rows) g = omega arith
+carried_small I more (Err Which) g = omega arith
+carried_small I more (Err NotUnit) g = omega arith
+carried_small I more (Err Room) g = omega arith

@@ -3,9 +3,9 @@
 use Rattle.std.specs.Prelude.{ℕ, ◌+◌, ◌*◌, eqb}
 use Rattle.parsimony.specs.Test.{pick}
 use Rattle.promises.specs.Answers.{number_of, carried_by}
-use Rattle.promises.specs.declared.Answer.{Answer}
-use Rattle.promises.specs.declared.Start.{Start}
-use Rattle.promises.specs.declared.Start.TheVariants.{Free, Given}
+use Rattle.promises.specs.Answers.{Answer}
+use Rattle.promises.specs.Input.{Start}
+use Rattle.std.specs.Prelude.{None, Some}
 use Rattle.sheet_lines.specs.Fault.{fault_number, fault_line}
 use Rattle.sheet_lines.specs.declared.Fault.{Fault}
 
@@ -24,4 +24,4 @@ fault_code f = packed (fault_number f) (fault_line f)
 -- no start is 18,446,744,073,709,551,615; any other number is the start
 unfoldable pub start_of : ℕ → Start
 unfolding pick
-start_of x = pick (eqb x 18446744073709551615) Free (Given x)
+start_of x = pick (eqb x 18446744073709551615) None (Some x)

@@ -7,7 +7,7 @@ ghost use Rattle.promises.specs.Answers.{carried_by};
 ghost use Rattle.answer_codes.specs.Codes.{answer_code, fault_code, start_of};
 ghost use Rattle.sheet_lines.specs.Fault.{fault_line};
 
-use promises::{Answer, Refusal, Start};
+use promises::Refusal;
 use sheet_lines::Fault;
 
 // Stands for no start.
@@ -15,8 +15,8 @@ pub const NO_START: u64 = 18446744073709551615;
 
 // A refusal's number and, for SHAPE, its node.
 pub fn refusal_code(refusal: Refusal) -> u64
-    requires { carried_by (Answer.Refused refusal) < 72057594037927936 }
-    ensures { result ≡ answer_code (Answer.Refused refusal) }
+    requires { carried_by (Err refusal) < 72057594037927936 }
+    ensures { result ≡ answer_code (Err refusal) }
 {
     match refusal {
         Refusal::Size => 1,
@@ -31,25 +31,25 @@ pub fn refusal_code(refusal: Refusal) -> u64
 }
 
 // An answer's number and what it carries.
-pub fn code(answer: Answer) -> u64
+pub fn code(answer: Result<(), Refusal>) -> u64
     requires { carried_by answer < 72057594037927936 }
     ensures { result ≡ answer_code answer }
 {
     match answer {
-        Answer::Done => 0,
-        Answer::Refused(refusal) => refusal_code(refusal),
+        Ok(()) => 0,
+        Err(refusal) => refusal_code(refusal),
     }
 }
 
 // The start that a number stands for.
 #[tactic(auto, using(crate::proofs::StartLaws::start_none, crate::proofs::StartLaws::start_given))]
-pub fn start_of(x: u64) -> Start
+pub fn start_of(x: u64) -> Option<usize>
     ensures { result ≡ start_of x }
 {
     if x == NO_START {
-        return Start::Free;
+        return None;
     }
-    Start::Given(x as usize)
+    Some(x as usize)
 }
 
 // A fault's number and its line.

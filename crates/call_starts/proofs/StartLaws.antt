@@ -11,41 +11,41 @@ use Rattle.parsimony.proofs.StateSetLaws.{member_within}
 use Rattle.parsimony.proofs.TellsLaws.{tells_same}
 use Rattle.promises.specs.Input.{Input}
 use Rattle.promises.specs.Starts.{OpenRoot, StateStart, SetStart}
-use Rattle.promises.specs.declared.Start.{Start}
-use Rattle.promises.specs.declared.Start.TheVariants.{Free, Given}
+use Rattle.promises.specs.Input.{Start}
+use Rattle.std.specs.Prelude.{None, Some}
 
 module _ (I : Input) (j : ℕ) (start : Start) where
   -- no start is allowed
-  pub state_free : start ≡ Free → Tells (StateStart I j start) true
+  pub state_free : start ≡ None → Tells (StateStart I j start) true
   state_free e = subst (λ t. Tells (StateStart I j t) true) (sym e) (record { told = tt })
 
-  pub set_free : start ≡ Free → Tells (SetStart I j start) true
+  pub set_free : start ≡ None → Tells (SetStart I j start) true
   set_free e = subst (λ t. Tells (SetStart I j t) true) (sym e) (record { told = tt })
 
   -- a state at s or above is not
-  pub state_high : (x : ℕ) → start ≡ Given x → I.s ≤ x → Tells (StateStart I j start) false
+  pub state_high : (x : ℕ) → start ≡ Some x → I.s ≤ x → Tells (StateStart I j start) false
   state_high x e h =
       subst (λ t. Tells (StateStart I j t) false) (sym e) (record { told = λ fits. omega (arith, fits.state) })
 
   -- a state below s is if the root does not bar it
-  pub state_below : (x : ℕ) (b : Bool) → start ≡ Given x → x < I.s → Tells (OpenRoot I j x) b
+  pub state_below : (x : ℕ) (b : Bool) → start ≡ Some x → x < I.s → Tells (OpenRoot I j x) b
       → Tells (StateStart I j start) b
   state_below x b e h t =
       subst (λ u. Tells (StateStart I j u) b) (sym e)
       (tells_same (λ o. record { state = h; unbarred = o }) (λ fits. fits.unbarred) t)
 
   -- the empty set is not
-  pub set_empty : (w : ℕ) → start ≡ Given w → w ≡ 0 → Tells (SetStart I j start) false
+  pub set_empty : (w : ℕ) → start ≡ Some w → w ≡ 0 → Tells (SetStart I j start) false
   set_empty w e h =
       subst (λ t. Tells (SetStart I j t) false) (sym e) (record { told = λ fits. omega (arith, fits.some) })
 
   -- nor one with a state at s or above
-  pub set_high : (w : ℕ) → start ≡ Given w → 2 ^ I.s ≤ w → Tells (SetStart I j start) false
+  pub set_high : (w : ℕ) → start ≡ Some w → 2 ^ I.s ≤ w → Tells (SetStart I j start) false
   set_high w e h =
       subst (λ t. Tells (SetStart I j t) false) (sym e) (record { told = λ fits. omega (arith, fits.within) })
 
   -- any other is if the root bars none of its members
-  pub set_below : (w : ℕ) (b : Bool) → start ≡ Given w → 0 < w → w < 2 ^ I.s
+  pub set_below : (w : ℕ) (b : Bool) → start ≡ Some w → 0 < w → w < 2 ^ I.s
       → Tells ((x : ℕ) → Member w x → OpenRoot I j x) b → Tells (SetStart I j start) b
   set_below w b e pos h t =
       subst (λ u. Tells (SetStart I j u) b) (sym e)

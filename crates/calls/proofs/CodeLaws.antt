@@ -8,12 +8,12 @@ use lib.ListN.{length}
 use Rattle.parsimony.specs.Barred.{barred}
 use Rattle.promises.specs.Answers.{number_of, carried_by, answer_of, value_of}
 use Rattle.promises.specs.Input.{Input, input}
-use Rattle.promises.specs.declared.Answer.{Answer}
-use Rattle.promises.specs.declared.Answer.TheVariants.{Refused}
-use Rattle.promises.specs.declared.Start.{Start}
+use Rattle.promises.specs.Answers.{Answer}
+use Rattle.std.specs.Prelude.{Err}
+use Rattle.promises.specs.Input.{Start}
 use Rattle.promises.specs.Promises.{CountedBySets}
-use Rattle.promises.specs.declared.Valued.{Valued}
-use Rattle.promises.specs.declared.Valued.TheVariants as Value
+use Rattle.promises.specs.Answers.{Valued}
+use Rattle.std.specs.Prelude.{Ok, Err}
 use Rattle.promises.proofs.Meaning.{score_small}
 use Rattle.promises.proofs.RuleLaws.{count_parts}
 use Rattle.answer_codes.specs.Codes.{packed, answer_code}
@@ -45,11 +45,11 @@ promise_from Promise {I} {j} {list = list} {rows} {list'} {rows'} {a} e p =
 pub counted_small : (left right : List ℕ) (s : ℕ) (costs : List ℕ) (c : ℕ) (cells : List ℕ) (j : ℕ)
     (sets sets' : List ℕ) (a : Valued) → CountedBySets (input left right s costs c cells []) j sets a sets'
     → (carried_by (answer_of a) < 1023) × (value_of a < barred)
-counted_small left right s costs c cells j sets sets' (Value.Done k) p =
+counted_small left right s costs c cells j sets sets' (Ok k) p =
     let parts = count_parts left right s costs c cells j (length sets) p.answer.given in (
       omega arith,
       score_small (input left right s costs c cells []) parts.table j parts.inside k
           p.lists.score,
     )
-counted_small left right s costs c cells j sets sets' (Value.Refused r) p =
-    (carried_small (input left right s costs c cells []) _ (Refused r) p.answer, omega arith)
+counted_small left right s costs c cells j sets sets' (Err r) p =
+    (carried_small (input left right s costs c cells []) _ (Err r) p.answer, omega arith)

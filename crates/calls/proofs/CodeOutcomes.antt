@@ -4,7 +4,7 @@ use mathlib.Core.List.{List}
 use mathlib.Core.Path.{◌≡◌, ap, sym, ◌∙◌}
 use Prim.Native.Nat.{ℕ}
 use Rattle.promises.specs.Input.{Input}
-use Rattle.promises.specs.declared.Start.{Start}
+use Rattle.promises.specs.Input.{Start}
 use Rattle.promises.proofs.Outcomes.{score_outcome, label_outcome, sets_outcome, hand_up_outcome, count_outcome}
 use Rattle.calls.specs.Coded.{Coded, ScoredCode, LabelledCode, SetsCode, HandedUpCode, CountCode}
 

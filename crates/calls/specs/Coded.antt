@@ -3,9 +3,9 @@
 use Rattle.std.specs.Prelude.{List, ◌≡◌, ℕ, ◌+◌}
 use Rattle.promises.specs.Answers.{number_of, carried_by, answer_of, value_of}
 use Rattle.promises.specs.Input.{Input}
-use Rattle.promises.specs.declared.Start.{Start}
+use Rattle.promises.specs.Input.{Start}
 use Rattle.promises.specs.Promises.{Scored, Labelled, SetsFound, HandedUp, CountedBySets}
-use Rattle.promises.specs.declared.Valued.{Valued}
+use Rattle.promises.specs.Answers.{Valued}
 use Rattle.answer_codes.specs.Codes.{packed, answer_code}
 
 -- set counting's code: above the number the change count when done, SHAPE's node when refused

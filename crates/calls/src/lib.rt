@@ -10,7 +10,7 @@ ghost use Rattle.answer_codes.specs.Codes.{start_of};
 
 use answer_codes::{code, refusal_code, start_of};
 use parsimony::Cell;
-use promises::Valued;
+use promises::{Refusal, Table};
 
 // Scoring: the score of each column.
 pub fn fernijster_score(
@@ -28,9 +28,16 @@ pub fn fernijster_score(
         (entered left right s costs c cells handed) scores.old rows.old result scores.new
         rows.new }
 {
-    code(scorer::score(
-        left, right, s as usize, costs, c as usize, cells, handed, scores, rows,
-    ))
+    let table = Table {
+        left,
+        right,
+        s: s as usize,
+        costs,
+        c: c as usize,
+        cells,
+        handed,
+    };
+    code(scorer::score(&table, scores, rows))
 }
 
 // Labelling: the state of each node in one column, from a start state.
@@ -51,19 +58,16 @@ pub fn fernijster_label(
         (entered left right s costs c cells handed) column (start_of start) states.old rows.old result
         states.new rows.new }
 {
-    code(scorer::label(
+    let table = Table {
         left,
         right,
-        s as usize,
+        s: s as usize,
         costs,
-        c as usize,
+        c: c as usize,
         cells,
         handed,
-        column as usize,
-        start_of(start),
-        states,
-        rows,
-    ))
+    };
+    code(scorer::label(&table, column as usize, start_of(start), states, rows))
 }
 
 // The set call: the set of each node in one column, from a start set.
@@ -84,19 +88,16 @@ pub fn fernijster_sets(
         (entered left right s costs c cells handed) column (start_of start) sets.old rows.old result
         sets.new rows.new }
 {
-    code(scorer::sets(
+    let table = Table {
         left,
         right,
-        s as usize,
+        s: s as usize,
         costs,
-        c as usize,
+        c: c as usize,
         cells,
         handed,
-        column as usize,
-        start_of(start),
-        sets,
-        rows,
-    ))
+    };
+    code(scorer::sets(&table, column as usize, start_of(start), sets, rows))
 }
 
 // Handing up: the root's row in one column.
@@ -116,28 +117,26 @@ pub fn fernijster_hand_up(
         (entered left right s costs c cells handed) column row.old rows.old result row.new
         rows.new }
 {
-    code(scorer::hand_up(
+    let table = Table {
         left,
         right,
-        s as usize,
+        s: s as usize,
         costs,
-        c as usize,
+        c: c as usize,
         cells,
         handed,
-        column as usize,
-        row,
-        rows,
-    ))
+    };
+    code(scorer::hand_up(&table, column as usize, row, rows))
 }
 
 // The number of set counting's answer, its node or its change count.
-fn count_code(counted: Valued) -> u64
+fn count_code(counted: Result<usize, Refusal>) -> u64
     requires { (carried_by (answer_of counted) < 72057594037927936) × (value_of counted < 72057594037927936) }
     ensures { result ≡ count_code counted }
 {
     match counted {
-        Valued::Done(changes) => 256 * (changes as u64),
-        Valued::Refused(refusal) => refusal_code(refusal),
+        Ok(changes) => 256 * (changes as u64),
+        Err(refusal) => refusal_code(refusal),
     }
 }
 
@@ -156,14 +155,14 @@ pub fn fernijster_count(
         (entered_with left right s costs c cells []) column
         sets.old result sets.new }
 {
-    count_code(scorer::count(
+    let table = Table {
         left,
         right,
-        s as usize,
+        s: s as usize,
         costs,
-        c as usize,
+        c: c as usize,
         cells,
-        column as usize,
-        sets,
-    ))
+        handed: &[],
+    };
+    count_code(scorer::count(&table, column as usize, sets))
 }

@@ -1,9 +1,8 @@
 -- The loops that gather states: one state more, and one parent's state more.
 -- Assumes nothing.
 use mathlib.Core.Bool.{Bool, true, false}
-use mathlib.Core.List.{List}
 use mathlib.Core.Logic.{inl, inr, ⊎_elim}
-use mathlib.Core.Path.{◌≡◌, refl, ap, sym, ◌∙◌, subst}
+use mathlib.Core.Path.{◌≡◌, refl, ap, ap₂, sym, ◌∙◌, subst}
 use Prim.Native.Nat.{ℕ, zero, suc, ◌+◌, ◌*◌, ◌^◌, ◌<◌}
 use native.Mathlib.Nat.{add_comm, one-mul}
 use native.Mathlib.Numerals.{add-one}
@@ -15,6 +14,7 @@ use Rattle.parsimony.specs.Least.{least}
 use Rattle.parsimony.specs.StateSet.{Member, holds, one, union, gather}
 use Rattle.parsimony.specs.Tells.{Tells}
 use Rattle.parsimony.specs.Test.{pick, both, some}
+use Rattle.parsimony.proofs.LeastLaws.{least_same}
 use Rattle.parsimony.proofs.Order.{pick_true, pick_false}
 use Rattle.parsimony.proofs.StateCountLaws.{
   by_test,
@@ -27,8 +27,8 @@ use Rattle.parsimony.proofs.StateCountLaws.{
   both_true,
 }
 use Rattle.parsimony.proofs.StateSetLaws.{holds_true, holds_false, union_member, set_same}
-use Rattle.row_step.specs.Lane.{entry_at, lane}
-use Rattle.choice_steps.specs.Ties.{reached, reached_under, least_set}
+use Rattle.row_step.specs.Lane.{lane}
+use Rattle.choice_steps.specs.Ties.{reached_under, least_below, least_set}
 
 gather_suc : (f : ℕ → Bool) (n : ℕ) → gather f (n + 1) ≡ gather f n + pick (f n) (2 ^ n) 0
 unfolding gather
@@ -56,39 +56,25 @@ pub gather_none : (f : ℕ → Bool) → 0 ≡ gather f 0
 unfolding gather
 gather_none f = refl
 
--- at the start no state has reached the least
-pub reached_none : (costs : List ℕ) (from : ℕ) (rows : List ℕ) (at s : ℕ) → 0 ≡ reached costs from rows at s 0
-unfolding reached gather
-reached_none costs from rows at s = refl
+-- of no states none is least
+pub least_set_none : (f : ℕ → ℕ) (s : ℕ) → 0 ≡ least_below f s 0
+unfolding least_below gather
+least_set_none f s = refl
 
--- a state whose sum is the least joins
-pub reached_more : (costs : List ℕ) (from : ℕ) (rows : List ℕ) (at s y : ℕ)
-    → lane costs from rows at y ≡ least (lane costs from rows at) s
-    → union (reached costs from rows at s y) (one y) ≡ reached costs from rows at s (y + 1)
-unfolding reached
-reached_more costs from rows at s y e = gather_more _ y (eq-eqb _ _ e)
+-- a state at which f is least joins
+pub least_set_more : (f : ℕ → ℕ) (s y : ℕ) → f y ≡ least f s → union (least_below f s y) (one y) ≡ least_below f s (y + 1)
+unfolding least_below
+least_set_more f s y e = gather_more _ y (eq-eqb _ _ e)
 
 -- any other does not
-pub reached_other : (costs : List ℕ) (from : ℕ) (rows : List ℕ) (at s y : ℕ)
-    → (lane costs from rows at y ≡ least (lane costs from rows at) s → ⊥)
-    → reached costs from rows at s y ≡ reached costs from rows at s (y + 1)
-unfolding reached
-reached_other costs from rows at s y n = gather_other _ y (ne_eqb _ _ n)
+pub least_set_other : (f : ℕ → ℕ) (s y : ℕ) → (f y ≡ least f s → ⊥) → least_below f s y ≡ least_below f s (y + 1)
+unfolding least_below
+least_set_other f s y n = gather_other _ y (ne_eqb _ _ n)
 
--- the same of the states at which a row is least
-pub least_set_none : (rows : List ℕ) (at s : ℕ) → 0 ≡ least_set rows at s 0
-unfolding least_set gather
-least_set_none rows at s = refl
-
-pub least_set_more : (rows : List ℕ) (at s y : ℕ) → entry_at rows at y ≡ least (entry_at rows at) s
-    → union (least_set rows at s y) (one y) ≡ least_set rows at s (y + 1)
-unfolding least_set
-least_set_more rows at s y e = gather_more _ y (eq-eqb _ _ e)
-
-pub least_set_other : (rows : List ℕ) (at s y : ℕ) → (entry_at rows at y ≡ least (entry_at rows at) s → ⊥)
-    → least_set rows at s y ≡ least_set rows at s (y + 1)
-unfolding least_set
-least_set_other rows at s y n = gather_other _ y (ne_eqb _ _ n)
+-- the least of the same values are the same
+pub least_set_same : (f g : ℕ → ℕ) (s : ℕ) → 0 < s → ((y : ℕ) → y < s → f y ≡ g y) → least_set f s ≡ least_set g s
+unfolding least_below
+least_set_same f g s some h = gather_same _ _ s (λ y hy. ap₂ eqb (h y hy) (least_same f g s some h))
 
 -- a test on some number below n + 1: on n, or on some number below n
 some_suc : (f : ℕ → Bool) (n : ℕ) → some f (n + 1) ≡ pick (f n) true (some f n)
@@ -96,9 +82,9 @@ unfolding some
 some_suc f n = ap (some f) (add-one n)
 
 -- the states that reach the least under parent's states below n, as sets
-module _ (costs : List ℕ) (rows : List ℕ) (at s w : ℕ) where
+module _ (cost : ℕ → ℕ → ℕ) (entry : ℕ → ℕ) (s w : ℕ) where
   reach : ℕ → ℕ → Bool
-  reach x y = eqb (lane costs (x * s) rows at y) (least (lane costs (x * s) rows at) s)
+  reach x y = eqb (lane (cost x) entry y) (least (lane (cost x) entry) s)
 
   test : ℕ → ℕ → Bool
   test y x = both (holds w x) (reach x y)
@@ -115,16 +101,16 @@ module _ (costs : List ℕ) (rows : List ℕ) (at s w : ℕ) where
   unfolding test both
   fails x y h = ap (λ k. both k (reach x y)) h
 
-  under_gather : (n : ℕ) → reached_under costs rows at s w n ≡ gather (λ y. some (test y) n) s
+  under_gather : (n : ℕ) → reached_under cost entry s w n ≡ gather (λ y. some (test y) n) s
   unfolding reached_under test reach
   under_gather n = refl
 
-  reached_gather : (x : ℕ) → reached costs (x * s) rows at s s ≡ gather (reach x) s
-  unfolding reached reach
+  reached_gather : (x : ℕ) → least_set (lane (cost x) entry) s ≡ gather (reach x) s
+  unfolding least_below reach
   reached_gather x = refl
 
   -- under no state of the parent there is none
-  pub under_none : 0 ≡ reached_under costs rows at s w 0
+  pub under_none : 0 ≡ reached_under cost entry s w 0
   unfolding some
   under_none = zeros s ∙ sym (under_gather 0)
     where
@@ -134,11 +120,11 @@ module _ (costs : List ℕ) (rows : List ℕ) (at s w : ℕ) where
 
   -- a state x that is in the parent's set adds those that reach the least under it
   pub under_more : (x : ℕ) (b : Bool) → Tells (Member w x) b → b ≡ true
-      → union (reached_under costs rows at s w x) (reached costs (x * s) rows at s s) ≡ reached_under costs rows at s w
+      → union (reached_under cost entry s w x) (least_set (lane (cost x) entry) s) ≡ reached_under cost entry s w
       (x + 1)
   under_more x b told e =
       let hx : holds w x ≡ true = holds_true w x (subst (Tells (Member w x)) e told).told in
-      ap (λ k. union k (reached costs (x * s) rows at s s)) (under_gather x)
+      ap (λ k. union k (least_set (lane (cost x) entry) s)) (under_gather x)
       ∙ ap (union (gather (λ y. some (test y) x) s)) (reached_gather x)
       ∙ set_same s _ _ (or_lt s _ _ (gather_within _ s) (gather_within _ s)) (gather_within _ s)
       (λ y hy. (to y hy hx, from y hy hx))
@@ -171,7 +157,7 @@ module _ (costs : List ℕ) (rows : List ℕ) (at s w : ℕ) where
 
   -- one that is not adds none
   pub under_other : (x : ℕ) (b : Bool) → Tells (Member w x) b → b ≡ false
-      → reached_under costs rows at s w x ≡ reached_under costs rows at s w (x + 1)
+      → reached_under cost entry s w x ≡ reached_under cost entry s w (x + 1)
   under_other x b told e =
       under_gather x
       ∙ gather_same _ _ s (λ y hy. sym (some_suc (test y) x ∙ pick_false true (some (test y) x)

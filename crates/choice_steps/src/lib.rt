@@ -1,117 +1,106 @@
-// The choosing step and the set step, each on any rows lent to it: the state that is taken, and all that may be.
-// A row of s entries lies in the list of rows from a place on; row x of the cost table from place x * s on.
+// The choosing step and the set step, each on any row lent to it: the state that is taken, and all that may be.
 #![tactic(auto)]
 
-ghost use Rattle.std.specs.Prelude.{◌≡◌, ◌+◌, ◌*◌, ◌<◌, ◌≤◌, length};
+ghost use Rattle.std.specs.Prelude.{◌≡◌, ◌<◌, ◌≤◌, length};
+ghost use Rattle.parsimony.specs.Column.{cost_at};
 ghost use Rattle.parsimony.specs.Least.{low, least};
 ghost use Rattle.parsimony.specs.Limits.{most_states};
 ghost use Rattle.parsimony.specs.Tie.{rule_in_use};
-ghost use Rattle.row_step.specs.Lane.{entry_at, lane, Calm, Cheap, CheapTable};
-ghost use Rattle.choice_steps.specs.Ties.{reached, reached_under, least_set};
+ghost use Rattle.parsimony.specs.Written.{entries, Each};
+ghost use Rattle.row_step.specs.Lane.{lane, Calm, Cheap};
+ghost use Rattle.choice_steps.specs.Ties.{reached_under, least_set};
 
-use parsimony::Cell;
-use row_step::{least_up, through};
+use parsimony::{BARRED, Cell, MOST_STATES};
+use row_step::{Costs, through};
 use states::States;
+
+// The sums of a child's states: the change and the child's entry.
+fn sums(costs: &[u16], row: &[u32]) -> [u32; MOST_STATES]
+    requires cheap { Cheap costs.now (length row.now) }
+    requires calm { Calm row.now }
+    requires few { length row.now ≤ most_states }
+    ensures room { length row.now ≤ length result }
+    ensures each { Each (length row.now) (λ y e. e ≡ lane (entries costs.now) (entries row.now) y) (entries result) }
+{
+    let mut sums = [BARRED; MOST_STATES];
+    for y in 0..row.len() {
+        sums[y] = through(costs, row, y);
+    }
+    sums
+}
 
 // The choosing step: the state of a child under a parent in state x, by the tie rule in use. Of the states that reach
 // the least it is the lowest.
-pub fn choose(costs: &[u16], x: usize, rows: &[u32], at: usize, s: usize) -> usize
-    requires cheap_table { CheapTable costs.now s }
-    requires calm { Calm rows.now at s }
-    requires x_lt_s { (x < s) × (s ≤ most_states) }
-    ensures { result ≡ rule_in_use s x (lane costs.now (x * s) rows.now at) }
+pub fn choose(costs: &Costs, x: usize, row: &[u32]) -> usize
+    requires states { (x < costs.now.s) × (length row.now ≡ costs.now.s) }
+    requires calm { Calm row.now }
+    ensures { result ≡ rule_in_use costs.now.s x
+        (lane (cost_at costs.now.s costs.now.list.now x) (entries row.now)) }
 {
-    let from = x * s;
-    let mut best = through(costs, from, rows, at, s, 0);
-    let mut lowest = 0;
-    let mut y = 1;
-    while y < s {
-        let sum = through(costs, from, rows, at, s, y);
-        if sum < best {
-            best = sum;
-            lowest = y;
-        }
-        y += 1;
-    }
-    lowest
+    let sums = sums(costs.row(x), row);
+    lowest_least(&sums[..row.len()])
 }
 
 // The lowest state at which a row is least.
-pub fn lowest_least(rows: &[u32], at: usize, s: usize) -> usize
-    requires { (at + s ≤ length rows.now) × (0 < s) }
-    ensures { result ≡ low (entry_at rows.now at) s }
+pub fn lowest_least(row: &[u32]) -> usize
+    requires { 0 < length row.now }
+    ensures { result ≡ low (entries row.now) (length row.now) }
 {
     let mut lowest = 0;
-    let mut y = 1;
-    while y < s {
-        if rows[at + y] < rows[at + lowest] {
+    for y in 1..row.len() {
+        if row[y] < row[lowest] {
             lowest = y;
         }
-        y += 1;
     }
     lowest
 }
 
 // The least entry of a row.
-pub fn least_entry(rows: &[u32], at: usize, s: usize) -> u32
-    requires { (at + s ≤ length rows.now) × (0 < s) }
-    ensures { result ≡ least (entry_at rows.now at) s }
+pub fn least_entry(row: &[u32]) -> u32
+    requires { 0 < length row.now }
+    ensures { result ≡ least (entries row.now) (length row.now) }
 {
-    rows[at + lowest_least(rows, at, s)]
+    row[lowest_least(row)]
 }
 
 // The states at which a row is least.
-pub fn least_set(rows: &[u32], at: usize, s: usize) -> Cell
-    requires { (at + s ≤ length rows.now) × (0 < s) × (s ≤ most_states) }
-    ensures { result ≡ least_set rows.now at s s }
+pub fn least_set(row: &[u32]) -> Cell
+    requires { (0 < length row.now) × (length row.now ≤ most_states) }
+    ensures { result ≡ least_set (entries row.now) (length row.now) }
 {
-    let best = least_entry(rows, at, s);
+    let best = least_entry(row);
     let mut set = States::NONE;
-    let mut y = 0;
-    while y < s {
-        if rows[at + y] == best {
+    for y in 0..row.len() {
+        if row[y] == best {
             set = set.union(States::one(y));
         }
-        y += 1;
     }
     set.0
 }
 
-// The states of a child that reach the least.
-fn reach_set(costs: &[u16], from: usize, rows: &[u32], at: usize, s: usize) -> States
-    requires cheap { Cheap costs.now from s }
-    requires calm { Calm rows.now at s }
-    requires s_nonzero { (0 < s) × (s ≤ most_states) }
-    ensures { result.0 ≡ reached costs.now from rows.now at s s }
+// The states of a child that reach the least under a parent in state x.
+fn reach_set(costs: &Costs, x: usize, row: &[u32]) -> States
+    requires states { (x < costs.now.s) × (length row.now ≡ costs.now.s) }
+    requires calm { Calm row.now }
+    ensures { result.0 ≡ least_set (lane (cost_at costs.now.s costs.now.list.now x) (entries row.now))
+        costs.now.s }
 {
-    let best = least_up(costs, from, rows, at, s);
-    let mut set = States::NONE;
-    let mut y = 0;
-    while y < s {
-        if through(costs, from, rows, at, s, y) == best {
-            set = set.union(States::one(y));
-        }
-        y += 1;
-    }
-    set
+    let sums = sums(costs.row(x), row);
+    States(least_set(&sums[..row.len()]))
 }
 
 // The set step: the states of a child that reach the least under some state of its parent's set.
-pub fn child_set(costs: &[u16], rows: &[u32], at: usize, s: usize, parent: Cell) -> Cell
-    requires cheap_table { CheapTable costs.now s }
-    requires calm { Calm rows.now at s }
-    requires s_nonzero { (0 < s) × (s ≤ most_states) }
-    ensures { result ≡ reached_under costs.now rows.now at s parent s }
+pub fn child_set(costs: &Costs, row: &[u32], parent: Cell) -> Cell
+    requires states { length row.now ≡ costs.now.s }
+    requires calm { Calm row.now }
+    ensures { result ≡ reached_under (cost_at costs.now.s costs.now.list.now) (entries row.now)
+        costs.now.s parent costs.now.s }
 {
     let mut set = States::NONE;
-    let mut x = 0;
-    let mut from = 0;
-    while x < s {
+    for x in 0..row.len() {
         if States(parent).has(x) {
-            set = set.union(reach_set(costs, from, rows, at, s));
+            set = set.union(reach_set(costs, x, row));
         }
-        x += 1;
-        from += s;
     }
     set.0
 }

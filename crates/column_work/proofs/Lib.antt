@@ -1,5 +1,3 @@
 -- Laws of the work on a table: what it leaves has the meaning promised.
 -- Assumes nothing.
-pub mod LinkLaws
-pub mod ResultLaws
 pub mod ScoreSteps

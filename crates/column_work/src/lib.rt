@@ -2,13 +2,11 @@
 #![tactic(auto)]
 
 mod handing_up;
-mod labelling;
+mod marking;
 mod scoring;
-mod set_call;
 mod whole_work;
 
 pub use handing_up::row_column;
-pub use labelling::label_column;
+pub use marking::mark_column;
 pub use scoring::score_columns;
-pub use set_call::set_column;
 pub use whole_work::fill_column;

@@ -9,9 +9,9 @@ use Rattle.parsimony.specs.Written.{entries}
 use Rattle.promises.specs.CallRules.{Allowed}
 use Rattle.promises.specs.Input.{Input, nodes, column}
 use Rattle.promises.specs.Starts.{StateStart, SetStart, labels_for, sets_for}
-use Rattle.promises.specs.declared.Answer.{Answer}
-use Rattle.promises.specs.declared.Answer.TheVariants.{Done}
-use Rattle.promises.specs.declared.Start.{Start}
+use Rattle.promises.specs.Answers.{Answer}
+use Rattle.std.specs.Prelude.{Ok}
+use Rattle.promises.specs.Input.{Start}
 use Rattle.promises.proofs.AnswerLaws.{all_done}
 use Rattle.promises.proofs.Meaning.{score_meant, entry_meant, label_meant, set_meant}
 use Rattle.promises.proofs.RuleLaws.{score_rules_lem, rules_of}
@@ -32,8 +32,8 @@ rules_answer I table =
 
 -- what a call promises, where its answer is done
 done_promise : {I : Input} {n : ℕ} {Promise : List ℕ → List ℕ → Answer → List ℕ → List ℕ → Type 0} {f : ℕ → ℕ}
-    (call : Call I n Promise f) → call.answer ≡ Done
-    → Promise call.output call.rows Done call.output_after call.rows_after
+    (call : Call I n Promise f) → call.answer ≡ Ok tt
+    → Promise call.output call.rows (Ok tt) call.output_after call.rows_after
 done_promise {Promise = Promise} call a =
     subst (λ b. Promise call.output call.rows b call.output_after call.rows_after) a call.promise
 

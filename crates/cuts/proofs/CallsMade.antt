@@ -11,9 +11,9 @@ use Rattle.promises.specs.CallRules.{Allowed, Fits}
 use Rattle.promises.specs.Input.{Input, nodes, column}
 use Rattle.promises.specs.Promises.{Scored, Labelled, SetsFound, HandedUp}
 use Rattle.promises.specs.Starts.{StateStart, SetStart, labels_for, sets_for}
-use Rattle.promises.specs.declared.Answer.{Answer}
-use Rattle.promises.specs.declared.Answer.TheVariants.{Done}
-use Rattle.promises.specs.declared.Start.{Start}
+use Rattle.promises.specs.Answers.{Answer}
+use Rattle.std.specs.Prelude.{Ok}
+use Rattle.promises.specs.Input.{Start}
 use Rattle.promises.proofs.CanBeMet.{score_done, hand_up_done, label_done, sets_done}
 use Rattle.cuts.specs.Call.{Call, ScoreCall, HandUpCall, LabelCall, SetsCall}
 
@@ -28,7 +28,7 @@ zeros_fit I n =
 -- A promise that can be met with room, by lists that have the right entries, gives a call that leaves them.
 call_made : (I : Input) (n : ℕ) (Promise : List ℕ → List ℕ → Answer → List ℕ → List ℕ → Type 0) (right f : ℕ → ℕ)
     → ((output rows : List ℕ) → Fits I n (length output) (length rows)
-    → (output' : List ℕ) × (rows' : List ℕ) × Promise output rows Done output' rows'
+    → (output' : List ℕ) × (rows' : List ℕ) × Promise output rows (Ok tt) output' rows'
     × Each n (λ i e. e ≡ right i) (entries output'))
     → ((i : ℕ) → i < n → f i ≡ right i) → Call I n Promise f
 call_made I n Promise right f met same =
@@ -36,7 +36,7 @@ call_made I n Promise right f met same =
     record {
       output = replicate n 0;
       rows = replicate (nodes I * I.s) 0;
-      answer = Done;
+      answer = Ok tt;
       output_after = output';
       rows_after = rows';
       promise = promise;

@@ -22,7 +22,7 @@ use Rattle.promises.specs.CallRules.{Allowed}
 use Rattle.promises.specs.Input.{Input, nodes, tips_in, column}
 use Rattle.promises.specs.Results.{IsLabelling, IsSet, IsEntry}
 use Rattle.promises.specs.Starts.{StateStart, SetStart, labels_for, sets_for}
-use Rattle.promises.specs.declared.Start.{Start}
+use Rattle.promises.specs.Input.{Start}
 use Rattle.promises.proofs.Meaning.{score_right, labelling_right, set_right, entry_right}
 use Rattle.cuts.specs.Call.{Answers}
 use Rattle.cuts.specs.Cut.{CutAt, part}

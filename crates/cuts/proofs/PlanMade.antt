@@ -11,8 +11,8 @@ use Rattle.parsimony.specs.Row.{row, score}
 use Rattle.parsimony.proofs.Order.{by_lt}
 use Rattle.promises.specs.Input.{Input, nodes, column}
 use Rattle.promises.specs.Starts.{StateStart, SetStart, start_or, labels_for, sets_for}
-use Rattle.promises.specs.declared.Start.{Start}
-use Rattle.promises.specs.declared.Start.TheVariants.{Given}
+use Rattle.promises.specs.Input.{Start}
+use Rattle.std.specs.Prelude.{Some}
 use Rattle.promises.proofs.TableLaws.{table_sound, table_node}
 use Rattle.cuts.specs.Cut.{CutAt, part, rest, part_node, rest_node, in_part, in_rest, span}
 use Rattle.cuts.specs.Cuttable.{Cuttable}
@@ -131,10 +131,10 @@ module _ {F : Column → ℕ → ℕ → ℕ} {free : Column → ℕ} {Call : In
       (λ i hi. piece_values I ok (in_rest I v sent) (nodes I - 1) (in_rest_lem I ok v cut) j hj x f right i hi
       ∙ ap (λ z. F (column J j) z i) root) in
       let own : f v ≡ F (column I j) x v = right v (omega arith) in
-      let start_below : May (part I v) j (Given (f v)) =
-      subst (λ z. May (part I v) j (Given z)) (sym own) (work.lowers I ok j hj start may v cut) in
-      let lower : Comes Call below (part I v) j (Given (f v)) (λ i. f (part_node I v i)) =
-      comes_made below (part I v) j (Given (f v)) (λ i. f (part_node I v i)) (part_ok I ok v cut) low hj start_below
+      let start_below : May (part I v) j (Some (f v)) =
+      subst (λ z. May (part I v) j (Some z)) (sym own) (work.lowers I ok j hj start may v cut) in
+      let lower : Comes Call below (part I v) j (Some (f v)) (λ i. f (part_node I v i)) =
+      comes_made below (part I v) j (Some (f v)) (λ i. f (part_node I v i)) (part_ok I ok v cut) low hj start_below
       (λ i hi. piece_values I ok (in_part I v) v (in_part_lem I ok v cut) j hj x f right i hi) in
       (cut, (sent, (sends, (upper, lower))))
   comes_made (columns_at m first second) I j start f ok (within, (one, two)) hj may right = (

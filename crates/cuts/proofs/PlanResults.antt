@@ -13,8 +13,8 @@ use Rattle.parsimony.specs.Tie.{rule_in_use}
 use Rattle.parsimony.proofs.Order.{by_lt}
 use Rattle.promises.specs.Input.{Input, nodes, column}
 use Rattle.promises.specs.Starts.{StateStart, SetStart, start_or, labels_for, sets_for}
-use Rattle.promises.specs.declared.Start.{Start}
-use Rattle.promises.specs.declared.Start.TheVariants.{Given}
+use Rattle.promises.specs.Input.{Start}
+use Rattle.std.specs.Prelude.{Some}
 use Rattle.promises.proofs.Meaning.{set_of_lem}
 use Rattle.promises.proofs.TableLaws.{table_sound, table_node}
 use Rattle.cuts.specs.Call.{LabelCall, SetsCall, Answers}
@@ -150,7 +150,7 @@ pub record Work (F : Column → ℕ → ℕ → ℕ) (free : Column → ℕ) (Ca
   pub moves : (A B : Input) (j k : ℕ) → A.s ≡ B.s → SameTop (column A j) (column B k) → (start : Start)
       → May B k start → May A j start
   pub lowers : (I : Input) → Cuttable I → (j : ℕ) → j < I.c → (start : Start) → May I j start → (v : ℕ) → CutAt I v
-      → May (part I v) j (Given (F (column I j) (start_or start (free (column I j))) v))
+      → May (part I v) j (Some (F (column I j) (start_or start (free (column I j))) v))
 
 pub label_work : Work (label_from rule_in_use) free_start LabelCall StateStart
 unfolding column_of
@@ -210,10 +210,10 @@ module _ {F : Column → ℕ → ℕ → ℕ} {free : Column → ℕ} {Call : In
       ∙ ap (λ z. F (column J j) (start_or start z) i) (work.same _ _ top) in
       let own = cut_above F work.down I ok v cut sent right j hj x f upper v (omega arith)
       (rest_own I ok.table v cut sent right) in
-      let start_below : May (part I v) j (Given (f v)) =
-      subst (λ z. May (part I v) j (Given z)) (sym own) (work.lowers I ok j hj start fit v cut) in
+      let start_below : May (part I v) j (Some (f v)) =
+      subst (λ z. May (part I v) j (Some z)) (sym own) (work.lowers I ok j hj start fit v cut) in
       cut_down F work.down I ok v cut sent right j hj x f upper own
-      (λ i hi. comes_right below (part I v) j (Given (f v)) (λ i. f (part_node I v i))
+      (λ i hi. comes_right below (part I v) j (Some (f v)) (λ i. f (part_node I v i))
       (again I ok (in_part I v) v in_part_lem) hj start_below lower i hi) u h
   comes_right (columns_at m first second) I j start f ok hj fit (within, side) v h =
       ⊎_elim

@@ -18,8 +18,8 @@ use Rattle.parsimony.proofs.TieLaws.{in_use}
 use Rattle.promises.specs.Input.{Input, nodes, column}
 use Rattle.promises.specs.Results.{StartLabels, TakenBy}
 use Rattle.promises.specs.Starts.{OpenRoot, StateStart, SetStart, labels_for, sets_for}
-use Rattle.promises.specs.declared.Start.{Start}
-use Rattle.promises.specs.declared.Start.TheVariants.{Free, Given}
+use Rattle.promises.specs.Input.{Start}
+use Rattle.std.specs.Prelude.{None, Some}
 use Rattle.promises.proofs.Meaning.{labelling_of, set_of_lem}
 use Rattle.promises.proofs.TableLaws.{table_sound}
 use Rattle.cuts.specs.Cut.{CutAt, part, in_part}
@@ -31,16 +31,16 @@ use Rattle.cuts.proofs.PlanLaws.{top_row}
 module _ (A B : Input) (j k : ℕ) (states : A.s ≡ B.s)
     (same : (x : ℕ) → x < B.s → row (column A j) (nodes A - 1) x ≡ row (column B k) (nodes B - 1) x) where
   pub state_start : (start : Start) → StateStart B k start → StateStart A j start
-  state_start Free ok = tt
-  state_start (Given x) ok =
+  state_start None ok = tt
+  state_start (Some x) ok =
       record {
         state = subst (λ s. x < s) (sym states) ok.state;
         unbarred = λ bar. ok.unbarred (sym (same x ok.state) ∙ bar);
       }
 
   pub set_start : (start : Start) → SetStart B k start → SetStart A j start
-  set_start Free ok = tt
-  set_start (Given w) ok =
+  set_start None ok = tt
+  set_start (Some w) ok =
       record {
         some = ok.some;
         within = subst (λ s. w < 2 ^ s) (sym states) ok.within;
@@ -50,8 +50,8 @@ module _ (A B : Input) (j k : ℕ) (states : A.s ≡ B.s)
 -- every node of a labelling has a state
 labels_states : (P : Column) (start : Start) (l : ℕ → ℕ) → StartLabels P start l
     → (v : ℕ) → v ≤ P.last → l v < P.states
-labels_states P Free l free = free.least.agrees.states
-labels_states P (Given x) l forced = forced.agrees.states
+labels_states P None l free = free.least.agrees.states
+labels_states P (Some x) l forced = forced.agrees.states
 
 module _ (I : Input) (ok : Cuttable I) (j : ℕ) (hj : j < I.c) where
   -- the labelling by rows gives every node a state
@@ -64,11 +64,11 @@ module _ (I : Input) (ok : Cuttable I) (j : ℕ) (hj : j < I.c) where
   -- a state is taken at every node
   some_taken : (start : Start) → SetStart I j start → (v : ℕ) → (y : ℕ) × TakenBy (column I j) start v y
   unfolding column_of
-  some_taken Free right v =
+  some_taken None right v =
       let P = column I j in
       let sound = table_sound I ok.table j hj in
       (label P v, (label P, label_least most_handed P sound, refl))
-  some_taken (Given w) right v =
+  some_taken (Some w) right v =
       let P = column I j in
       let sound = table_sound I ok.table j hj in
       let (x, hx, m) = member_some I.s w right.within right.some in
@@ -100,11 +100,11 @@ module _ (I : Input) (ok : Cuttable I) (j : ℕ) (hj : j < I.c) where
         omega arith
 
     -- A state that comes down may be given for the part's root.
-    pub part_state : (x : ℕ) → x < I.s → StateStart (part I v) j (Given x)
+    pub part_state : (x : ℕ) → x < I.s → StateStart (part I v) j (Some x)
     part_state x hx = record { state = hx; unbarred = part_open x hx }
 
     -- So may a set.
-    pub part_set : (w : ℕ) → 0 < w → w < 2 ^ I.s → SetStart (part I v) j (Given w)
+    pub part_set : (w : ℕ) → 0 < w → w < 2 ^ I.s → SetStart (part I v) j (Some w)
     part_set w some within =
         record {
           some = some;

@@ -7,9 +7,9 @@ use Rattle.promises.specs.CallRules.{Fits, score_rules, label_rules, sets_rules,
 use Rattle.promises.specs.Input.{Input, nodes}
 use Rattle.promises.specs.Promises.{Scored, Labelled, SetsFound, HandedUp}
 use Rattle.promises.specs.Starts.{StateStart, SetStart}
-use Rattle.promises.specs.declared.Answer.{Answer}
-use Rattle.promises.specs.declared.Answer.TheVariants.{Done}
-use Rattle.promises.specs.declared.Start.{Start}
+use Rattle.promises.specs.Answers.{Answer}
+use Rattle.std.specs.Prelude.{Ok}
+use Rattle.promises.specs.Input.{Start}
 
 -- a call on table I, by what it promises of a lent output and the row room, with room for n entries, that leaves f i as
 -- entry i of the output
@@ -43,10 +43,10 @@ SetsCall I j start S = Call I (nodes I) (SetsFound I j start) S
 -- No call on the table is refused, given room, a column of it and a start that may be given for its root.
 pub record Answers (I : Input) : Type 0 where
   pub score : (scores rows : ℕ) → Fits I I.c scores rows
-      → (a : Answer) → Given (score_rules I scores rows) I a → a ≡ Done
+      → (a : Answer) → Given (score_rules I scores rows) I a → a ≡ Ok tt
   pub label : (j : ℕ) (start : Start) (states rows : ℕ) → j < I.c → StateStart I j start → Fits I (nodes I) states rows
-      → (a : Answer) → Given (label_rules I j start states rows) I a → a ≡ Done
+      → (a : Answer) → Given (label_rules I j start states rows) I a → a ≡ Ok tt
   pub sets : (j : ℕ) (start : Start) (sets rows : ℕ) → j < I.c → SetStart I j start → Fits I (nodes I) sets rows
-      → (a : Answer) → Given (sets_rules I j start sets rows) I a → a ≡ Done
+      → (a : Answer) → Given (sets_rules I j start sets rows) I a → a ≡ Ok tt
   pub hand_up : (j row rows : ℕ) → j < I.c → Fits I I.s row rows
-      → (a : Answer) → Given (hand_up_rules I j row rows) I a → a ≡ Done
+      → (a : Answer) → Given (hand_up_rules I j row rows) I a → a ≡ Ok tt

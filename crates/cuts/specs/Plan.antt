@@ -2,8 +2,8 @@
 -- Assumes nothing.
 use Rattle.std.specs.Prelude.{◌⊎◌, ℕ, ◌+◌, ◌-◌, ◌<◌, ◌≤◌}
 use Rattle.promises.specs.Input.{Input}
-use Rattle.promises.specs.declared.Start.{Start}
-use Rattle.promises.specs.declared.Start.TheVariants.{Given}
+use Rattle.promises.specs.Input.{Start}
+use Rattle.std.specs.Prelude.{Some}
 use Rattle.cuts.specs.Call.{ScoreCall, LabelCall, SetsCall, HandUpCall}
 use Rattle.cuts.specs.Cut.{CutAt, part, rest, part_node, rest_node, span}
 
@@ -42,7 +42,7 @@ Comes Call (cut_at v below above) I j start f =
     × ((sent : ℕ → ℕ → ℕ)
     × (SendsUp below (part I v) sent
     × (Comes Call above (rest I v sent) j start (λ i. f (rest_node I v sent i))
-    × Comes Call below (part I v) j (Given (f v)) (λ i. f (part_node I v i)))))
+    × Comes Call below (part I v) j (Some (f v)) (λ i. f (part_node I v i)))))
 Comes Call (columns_at m first second) I j start f =
     (m ≤ I.c)
     × (((j < m) × Comes Call first (span I 0 m) j start f)

@@ -46,11 +46,9 @@ fn right_of(v: u16) -> u16
 fn comb(left: &mut [u16], right: &mut [u16])
     requires { (length left.old ≡ 1025) × (length right.old ≡ 1025) }
 {
-    let mut v: u16 = 0;
-    while v < 1025 {
-        left[v as usize] = left_of(v);
-        right[v as usize] = right_of(v);
-        v += 1;
+    for v in 0..1025u16 {
+        left[usize::from(v)] = left_of(v);
+        right[usize::from(v)] = right_of(v);
     }
 }
 

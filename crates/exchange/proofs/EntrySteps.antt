@@ -1,12 +1,12 @@
 -- The turns of the entry: the sheet's fault, the column, the room, the line.
 -- Assumes nothing.
-use mathlib.Core.List.{List, ◌++◌}
-use mathlib.Core.Path.{◌≡◌, ap, ap₂, sym, ◌∙◌, subst}
-use Prim.Native.Nat.{ℕ, ◌*◌, ◌-◌, ◌<◌, ◌≤◌}
+use mathlib.Core.List.{List, [], ◌++◌}
+use mathlib.Core.Path.{◌≡◌, ap, sym, ◌∙◌}
+use Prim.Native.Nat.{ℕ, ◌*◌, ◌<◌, ◌≤◌}
 use native.Mathlib.Omega.{arith}
 use borrow.Author.Tests.{lt-ltb, le-ltb}
-use lib.ListN.{length, take, drop}
-use lib.Seq.{take-append_seam}
+use lib.ListN.{length, drop}
+use Rattle.std.proofs.Common.{Result, Ok}
 use Rattle.parsimony.proofs.Order.{pick_true, pick_false}
 use Rattle.answer_codes.specs.Codes.{packed, fault_code}
 use Rattle.exchange.specs.Entry.{
@@ -22,16 +22,11 @@ use Rattle.exchange.specs.Entry.{
 }
 use Rattle.sheet_lines.specs.declared.Fault.{Fault}
 use Rattle.report_pages.specs.SheetLine.{on_judged, line_in, Printable, PrintedOf}
-use Rattle.sheet_lines.proofs.PartLaws.{part_first}
+use Rattle.report_pages.proofs.PrintSteps.{printable_most}
 use Rattle.report_pages.proofs.ReadLaws.{read_sound}
-use Rattle.report_lines.specs.Reports.{StartsWith}
 use Rattle.sheet.specs.Gives.{GivesSheet}
 use Rattle.sheet.specs.Judge.{Contents, sound, faulty, judge}
-use Rattle.sheet.specs.declared.Read.{Read}
-use Rattle.sheet.specs.declared.Read.TheVariants.{Sound}
 use Rattle.sheet.specs.declared.Sheet.{Sheet}
-use Rattle.report_text.specs.Put.{Put}
-use Rattle.report_text.proofs.PutLaws.{put_whole}
 
 module _ (sheet : List ℕ) (j : ℕ) (out : List ℕ) where
   -- a fault of the sheet
@@ -71,8 +66,8 @@ module _ (sheet : List ℕ) (j : ℕ) (out : List ℕ) where
 
       -- done
       pub entry_done : (code : ℕ) (out' : List ℕ) → length (line_in sheet has j) ≤ length out
-          → code ≡ packed 0 (length (line_in sheet has j)) → out' ≡ line_in sheet has j ++ drop (length (line_in sheet has
-          j)) out
+          → code ≡ packed 0 (length (line_in sheet has j))
+          → out' ≡ line_in sheet has j ++ drop (length (line_in sheet has j)) out
           → Entered sheet j out code out'
       unfolding line_given outcome_code leaves
       entry_done code out' room c o =
@@ -80,33 +75,37 @@ module _ (sheet : List ℕ) (j : ℕ) (out : List ℕ) where
           to_line ∙ pick_false _ _ (le-ltb (length out) (length (line_in sheet has j)) room) in
           record { answer = c ∙ ap outcome_code (sym told); output = o ∙ ap (λ r. leaves r out) (sym told) }
 
--- the line that is given, from the line that is printed
+-- the line that is given, from the line that is printed after nothing
 module _ (sheet : List ℕ) (s : Sheet) (costs left right : List ℕ) (j : ℕ) (ready : Printable sheet s costs left right j)
-    (line line' : List ℕ) (n k : ℕ) (printed : PrintedOf sheet j line line' n k) (out : List ℕ) where
-  abbrev text : List ℕ
-  text = line_in sheet ready.has j
+    {start line text : List ℕ} {k : ℕ} (none : start ≡ []) (printed : PrintedOf sheet j start line k)
+    (same : text ≡ line)
+  where
+    text_is : text ≡ line_in sheet ready.has j
+    text_is =
+        same ∙ (printed.printed ready.has ready.read.is).text ∙ ap (λ l. l ++ line_in sheet ready.has j) none
 
-  starts : StartsWith text line line' n
-  starts = (printed.printed ready.has ready.read.is).text
+    -- it is at most 1,056 bytes long
+    pub give_short : length text ≤ 1056
+    give_short =
+        let most = printable_most sheet s costs left right j ready in let long = ap length text_is in omega arith
 
-  pub give_room : length out < n → Entered sheet j out 8 out
-  give_room short =
-      let size = starts.long in entry_room sheet j out ready.has ready.read.is ready.inside (omega arith)
+    pub give_room : (out : List ℕ) → length out < length text → Entered sheet j out 8 out
+    give_room out short =
+        let long = ap length text_is in entry_room sheet j out ready.has ready.read.is ready.inside (omega arith)
 
-  pub give_done : (out' : List ℕ) (next : ℕ) → n ≤ length out → Put (take (n - 0) (drop 0 line')) 0 out out' next
-      → Entered sheet j out (256 * n) out'
-  give_done out' next room put =
-      let size = starts.long in
-      let first : take (n - 0) (drop 0 line') ≡ text =
-      part_first line' n ∙ ap₂ take size starts.bytes ∙ take-append_seam text (drop (length text) line) in
-      entry_done sheet j out ready.has ready.read.is ready.inside (256 * n) out' (omega arith)
-      (omega arith) (put_whole (subst (λ l. Put l 0 out out' next) first put) (omega arith))
+    pub give_done : (out put : List ℕ) → length text ≤ length out → put ≡ text
+        → Entered sheet j out (256 * length text) (put ++ drop (length text) out)
+    give_done out put room is =
+        let long = ap length text_is in
+        entry_done sheet j out ready.has ready.read.is ready.inside (256 * length text) (put ++ drop (length text) out)
+        (omega arith) (omega arith)
+        (ap (λ l. l ++ drop (length text) out) is ∙ ap (λ l. l ++ drop (length l) out) text_is)
 
 -- no such column
-pub read_which : (sheet : List ℕ) (s : Sheet) (answer : Read) (table' : List (List ℕ))
+pub read_which : (sheet : List ℕ) (s : Sheet) (answer : Result Sheet Fault) (table' : List (List ℕ))
     (left right left' right' : List ℕ) (j : ℕ) (out : List ℕ)
     → GivesSheet (judge sheet) answer table' left right left' right'
-    → answer ≡ Sound s → s.columns ≤ j → Entered sheet j out 6 out
+    → answer ≡ Ok s → s.columns ≤ j → Entered sheet j out 6 out
 read_which sheet s answer table' left right left' right' j out gives is over =
     let holds = read_sound sheet s answer table' left right left' right' gives is in
     let c = holds.columns in

@@ -2,15 +2,15 @@
 // exports it).
 #![tactic(auto)]
 
-ghost use Rattle.std.specs.Prelude.{◌≡◌, length};
+ghost use Rattle.std.specs.Prelude.{◌<◌};
 ghost use Rattle.exchange.specs.Entry.{Entered};
-ghost use Rattle.report_pages.specs.SheetLine.{Printable};
 
 use answer_codes::fault_code;
-use parsimony::{BARRED, Cell, MOST_NODES, NO_CHILD};
-use report_pages::{MOST_ENTRIES, MOST_LINE, sheet_line};
-use report_text::put_text;
-use sheet::{Read, Sheet, read_sheet};
+use parsimony::{MOST_NODES, NO_CHILD};
+use report_lines::column::MOST_LINE;
+use report_pages::{ReadSheet, Room, sheet_line};
+use report_text::Text;
+use sheet::read_sheet;
 use sheet_costs::flat_costs;
 use sheet_lines::MOST_NAMES;
 
@@ -20,45 +20,20 @@ const WHICH: u64 = 6;
 const ROOM: u64 = 8;
 
 // The line of column j of a sheet that has been read goes to the output, where it fits.
-fn give_line(
-    sheet: &[u8],
-    s: Sheet,
-    costs: &[u16],
-    left: &[u16],
-    right: &[u16],
-    j: usize,
-    out: &mut [u8],
-) -> u64
-    requires printable { Printable sheet.now s costs.now left.now right.now j }
-    requires left_len { (length left.now ≡ 1023) × (length right.now ≡ 1023) }
-    ensures { Entered sheet.now j out.old result out.new }
+fn give_line(s: &ReadSheet, j: usize, out: &mut [u8]) -> u64
+    requires { j < s.now.numbers.columns }
+    ensures { Entered s.now.bytes.now j out.old result out.new }
 {
-    let mut cells: [Cell; MOST_NAMES] = [0; MOST_NAMES];
-    let mut states = [0u8; MOST_NODES];
-    let mut sets: [Cell; MOST_NODES] = [0; MOST_NODES];
-    let mut rows = [BARRED; MOST_ENTRIES];
-    let mut line = [0u8; MOST_LINE];
-    let printed = sheet_line(
-        sheet,
-        s,
-        costs,
-        left,
-        right,
-        j,
-        &mut cells,
-        &mut states,
-        &mut sets,
-        &mut rows,
-        &mut line,
-    );
-    let length = printed.length;
-    if out.len() < length {
+    let mut room = Room::new();
+    let mut line: Text<MOST_LINE> = Text::new();
+    sheet_line(s, j, &mut room, &mut line);
+    let text = line.as_slice();
+    let n = text.len();
+    if out.len() < n {
         return ROOM;
     }
-    let answer = 256 * (length as u64);
-    let text = &line[..];
-    put_text(&text[0..length], out, 0);
-    answer
+    out[..n].copy_from_slice(text);
+    256 * (n as u64)
 }
 
 // The line of a column of the sheet, without its line end: the low 8 bits of the result are the number; bits 8 to 31
@@ -71,13 +46,20 @@ pub fn fernijster_column(sheet: &[u8], column: u64, out: &mut [u8]) -> u64
     let mut left = [NO_CHILD; MOST_NODES];
     let mut right = [NO_CHILD; MOST_NODES];
     match read_sheet(sheet, &mut names, &mut table, &mut left, &mut right) {
-        Read::Faulty(fault) => fault_code(fault),
-        Read::Sound(s) => {
+        Err(fault) => fault_code(fault),
+        Ok(s) => {
             if (s.columns as u64) <= column {
                 return WHICH;
             }
             let costs = flat_costs(table);
-            give_line(sheet, s, &costs, &left, &right, column as usize, out)
+            let read = ReadSheet {
+                bytes: sheet,
+                numbers: s,
+                costs: &costs,
+                left: &left,
+                right: &right,
+            };
+            give_line(&read, column as usize, out)
         }
     }
 }

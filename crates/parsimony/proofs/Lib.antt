@@ -6,6 +6,7 @@ pub mod TellsLaws
 pub mod Extremes
 pub mod Sums
 pub mod FilledLaws
+pub mod SliceLaws
 pub mod WrittenLaws
 pub mod LeastLaws
 pub mod TieLaws

@@ -11,21 +11,21 @@ use Rattle.parsimony.proofs.ShapeLaws.{fault_unique}
 use Rattle.promises.specs.Answers.{refusal_number, refusal_value, Carries, GivenFor, Given}
 use Rattle.promises.specs.Input.{Input, nodes, node_in}
 use Rattle.promises.specs.Rules.{Rule, All, First}
-use Rattle.promises.specs.declared.Answer.{Answer}
-use Rattle.promises.specs.declared.Answer.TheVariants.{Done, Refused}
+use Rattle.promises.specs.Answers.{Answer}
+use Rattle.std.specs.Prelude.{Ok, Err}
 use Rattle.promises.specs.declared.Refusal.{Refusal}
 use Rattle.promises.specs.declared.Refusal.TheVariants.{Size, Shape, Costs, Cells, Rows, Which, NotUnit, Room}
 use Rattle.promises.proofs.RuleLaws.{first_here, first_more, first_unique, all_not_first}
 
 -- a rule that does not hold, after rules that do, is refused with its number
 pub refused_here : (Rs Qs : List Rule) (R : Rule) (I : Input) (r : Refusal) → All Rs → (R.asks → ⊥)
-    → R.number ≡ refusal_number r → Carries I r → Given (Rs ++ (R ∷ Qs)) I (Refused r)
+    → R.number ≡ refusal_number r → Carries I r → Given (Rs ++ (R ∷ Qs)) I (Err r)
 refused_here Rs Qs R I r all fails number carries =
     record { given = (subst (λ k. First (Rs ++ (R ∷ Qs)) k) number (first_here Rs Qs R all fails), carries) }
 
 -- a refusal stays the answer where more rules follow
-pub refused_more : (Rs Qs : List Rule) (I : Input) (r : Refusal) → Given Rs I (Refused r)
-    → Given (Rs ++ Qs) I (Refused r)
+pub refused_more : (Rs Qs : List Rule) (I : Input) (r : Refusal) → Given Rs I (Err r)
+    → Given (Rs ++ Qs) I (Err r)
 refused_more Rs Qs I r g = record { given = (first_more Rs Qs (refusal_number r) g.given.0, g.given.1) }
 
 -- what is given is given under the name of its case
@@ -33,17 +33,17 @@ pub given_same : {rules : List Rule} {I : Input} {a b : Answer} → Given rules 
 given_same {rules} {I} g e = subst (Given rules I) e g
 
 -- where the answer is done all rules hold
-pub done_all : (rules : List Rule) (I : Input) (a : Answer) → Given rules I a → a ≡ Done → All rules
+pub done_all : (rules : List Rule) (I : Input) (a : Answer) → Given rules I a → a ≡ Ok tt → All rules
 done_all rules I a g e = subst (GivenFor rules I) e g.given
 
 -- where all rules hold nothing is refused
-pub all_unrefused : (rules : List Rule) (I : Input) (r : Refusal) → All rules → Given rules I (Refused r) → ⊥
+pub all_unrefused : (rules : List Rule) (I : Input) (r : Refusal) → All rules → Given rules I (Err r) → ⊥
 all_unrefused rules I r all g = all_not_first rules (refusal_number r) all g.given.0
 
 -- so the answer is done
-pub all_done : (rules : List Rule) (I : Input) (a : Answer) → All rules → Given rules I a → a ≡ Done
-all_done rules I Done all g = refl
-all_done rules I (Refused r) all g = absurd (all_unrefused rules I r all g)
+pub all_done : (rules : List Rule) (I : Input) (a : Answer) → All rules → Given rules I a → a ≡ Ok tt
+all_done rules I (Ok u) all g = refl
+all_done rules I (Err r) all g = absurd (all_unrefused rules I r all g)
 
 -- the refusal with this number that carries this value
 abbrev refusal_of : ℕ → ℕ → Refusal
@@ -99,9 +99,9 @@ refusal_unique I r q e f g =
 
 -- under the same rules and for the same input one answer only is given
 pub answer_unique : (rules : List Rule) (I : Input) (a b : Answer) → Given rules I a → Given rules I b → a ≡ b
-answer_unique rules I Done Done f g = refl
-answer_unique rules I Done (Refused q) f g = absurd (all_not_first rules (refusal_number q) f.given g.given.0)
-answer_unique rules I (Refused r) Done f g = absurd (all_not_first rules (refusal_number r) g.given f.given.0)
-answer_unique rules I (Refused r) (Refused q) f g =
+answer_unique rules I (Ok u) (Ok w) f g = refl
+answer_unique rules I (Ok u) (Err q) f g = absurd (all_not_first rules (refusal_number q) f.given g.given.0)
+answer_unique rules I (Err r) (Ok u) f g = absurd (all_not_first rules (refusal_number r) g.given f.given.0)
+answer_unique rules I (Err r) (Err q) f g =
     let number = first_unique rules (refusal_number r) (refusal_number q) f.given.0 g.given.0 in
-    ap Refused (refusal_unique I r q number f.given.1 g.given.1)
+    ap Err (refusal_unique I r q number f.given.1 g.given.1)

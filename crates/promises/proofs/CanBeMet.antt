@@ -39,10 +39,10 @@ use Rattle.promises.specs.Promises.{
 use Rattle.promises.specs.RowRoom.{Worked}
 use Rattle.promises.specs.Rules.{Rule, All}
 use Rattle.promises.specs.Starts.{StateStart, SetStart, labels_for, sets_for}
-use Rattle.promises.specs.declared.Answer.TheVariants.{Done}
-use Rattle.promises.specs.declared.Start.{Start}
-use Rattle.promises.specs.declared.Start.TheVariants.{Free}
-use Rattle.promises.specs.declared.Valued.TheVariants as Value
+use Rattle.std.specs.Prelude.{Ok}
+use Rattle.promises.specs.Input.{Start}
+use Rattle.std.specs.Prelude.{None}
+use Rattle.std.specs.Prelude.{Ok}
 use Rattle.promises.proofs.Meaning.{score_right, entry_right, labelling_right, set_right}
 use Rattle.promises.proofs.RuleLaws.{rules_of, score_rules_lem, count_rules_lem}
 use Rattle.promises.proofs.WriteLaws.{list_made, row_room_made, written_right}
@@ -58,7 +58,7 @@ last_made I rows fits (suc k) =
 module _ (I : Input) (table : Allowed I) where
   -- Scoring can be done; what it leaves are the scores by rows.
   pub score_done : (scores rows : List ℕ) → Fits I I.c (length scores) (length rows)
-      → (scores' : List ℕ) × (rows' : List ℕ) × Scored I scores rows Done scores' rows'
+      → (scores' : List ℕ) × (rows' : List ℕ) × Scored I scores rows (Ok tt) scores' rows'
       × Each I.c (λ j k. k ≡ score (column I j)) (entries scores')
   score_done scores rows room =
       let (scores', written) = list_made I.c (λ j. score (column I j)) scores room.output_room in
@@ -105,7 +105,7 @@ module _ (I : Input) (table : Allowed I) where
     -- a call on the column is done where its rules hold and its output is written
     column_done : (rules : ℕ → ℕ → List Rule) (Output : List ℕ → List ℕ → Type 0) (out rows out' : List ℕ)
         → All (rules (length out) (length rows)) → nodes I * I.s ≤ length rows → Output out out'
-        → (rows' : List ℕ) × ColumnCalled rules I j Output out rows Done out' rows'
+        → (rows' : List ℕ) × ColumnCalled rules I j Output out rows (Ok tt) out' rows'
     column_done rules Output out rows out' all room output =
         let (rows', worked) = worked_made rows room in
         (rows', record { answer = record { given = all }; lists = record { output = output; worked = worked } })
@@ -118,7 +118,7 @@ module _ (I : Input) (table : Allowed I) where
 
     -- Handing up can be done; what it leaves is the root's row.
     pub hand_up_done : (out rows : List ℕ) → Fits I I.s (length out) (length rows)
-        → (out' : List ℕ) × (rows' : List ℕ) × HandedUp I j out rows Done out' rows'
+        → (out' : List ℕ) × (rows' : List ℕ) × HandedUp I j out rows (Ok tt) out' rows'
         × Each I.s (λ x e. e ≡ row (column I j) (nodes I - 1) x) (entries out')
     unfolding column_of
     hand_up_done out rows room =
@@ -132,7 +132,7 @@ module _ (I : Input) (table : Allowed I) where
     -- Labelling from a start can be done; what it leaves is the labelling by rows.
     pub label_done : (start : Start) → StateStart I j start → (states rows : List ℕ)
         → Fits I (nodes I) (length states) (length rows)
-        → (states' : List ℕ) × (rows' : List ℕ) × Labelled I j start states rows Done states' rows'
+        → (states' : List ℕ) × (rows' : List ℕ) × Labelled I j start states rows (Ok tt) states' rows'
         × Each (nodes I) (λ v x. x ≡ labels_for (column I j) start v) (entries states')
     label_done start may states rows room =
         let (states', labels, same) = states_made start may states room.output_room in
@@ -144,7 +144,7 @@ module _ (I : Input) (table : Allowed I) where
     -- The call for the sets from a start can be done; what it leaves are the sets by rows.
     pub sets_done : (start : Start) → SetStart I j start → (sets rows : List ℕ)
         → Fits I (nodes I) (length sets) (length rows)
-        → (sets' : List ℕ) × (rows' : List ℕ) × SetsFound I j start sets rows Done sets' rows'
+        → (sets' : List ℕ) × (rows' : List ℕ) × SetsFound I j start sets rows (Ok tt) sets' rows'
         × Each (nodes I) (λ v w. w ≡ sets_for (column I j) start v) (entries sets')
     sets_done start may sets rows room =
         let (sets', each, same) = sets_made start may sets room.output_room in
@@ -156,10 +156,10 @@ module _ (I : Input) (table : Allowed I) where
     -- The whole work on a column can be done, and its number is the score by rows.
     pub work_done : (states sets rows : List ℕ) → FitsWork I (length states) (length sets) (length rows)
         → (states' : List ℕ) × (sets' : List ℕ) × (rows' : List ℕ)
-        × ColumnWorked I j states sets rows (Value.Done (score (column I j))) states' sets' rows'
+        × ColumnWorked I j states sets rows (Ok (score (column I j))) states' sets' rows'
     work_done states sets rows room =
-        let (states', labels, same_labels) = states_made Free tt states room.state_room in
-        let (sets', each, same_sets) = sets_made Free tt sets room.set_room in
+        let (states', labels, same_labels) = states_made None tt states room.state_room in
+        let (sets', each, same_sets) = sets_made None tt sets room.set_room in
         let (rows', worked) = worked_made rows room.row_room in (
           states',
           sets',
@@ -182,7 +182,7 @@ module _ (left right : List ℕ) (s : ℕ) (costs : List ℕ) (c : ℕ) (cells :
 
   pub count_done : Allowed counted → UnitTable counted → (j : ℕ) → j < c → (sets : List ℕ)
       → nodes counted ≤ length sets
-      → (sets' : List ℕ) × CountedBySets counted j sets (Value.Done (score (column counted j))) sets'
+      → (sets' : List ℕ) × CountedBySets counted j sets (Ok (score (column counted j))) sets'
   count_done table unit j inside sets room =
       let (sets', written) = list_made (nodes counted) (λ v. (counted_at left right c cells j v).set) sets room in
       let same =

@@ -2,6 +2,7 @@
 -- by meaning is what the definitions by rows give.
 -- Assumes nothing.
 pub mod RuleLaws
+pub mod SoundLaws
 pub mod AnswerLaws
 pub mod RefusalLaws
 pub mod TableLaws

@@ -40,8 +40,8 @@ use Rattle.promises.specs.CallRules.{Allowed}
 use Rattle.promises.specs.Input.{Input, nodes, column}
 use Rattle.promises.specs.Results.{StartLabels, IsLabelling, IsSet, IsEntry}
 use Rattle.promises.specs.Starts.{StateStart, SetStart, start_or, labels_for, sets_for}
-use Rattle.promises.specs.declared.Start.{Start}
-use Rattle.promises.specs.declared.Start.TheVariants.{Free, Given}
+use Rattle.promises.specs.Input.{Start}
+use Rattle.std.specs.Prelude.{None, Some}
 use Rattle.promises.proofs.ResultUnique.{label_unique, set_unique, entry_unique}
 use Rattle.promises.proofs.TableLaws.{table_sound}
 
@@ -73,12 +73,12 @@ from_same P tree x l m same least =
 -- and for those of any start
 start_same : (P : Column) → Rooted P.last P.kids → (start : Start) (l m : ℕ → ℕ)
     → ((v : ℕ) → v ≤ P.last → l v ≡ m v) → StartLabels P start m → StartLabels P start l
-start_same P tree Free l m same f =
+start_same P tree None l m same f =
     record {
       least = least_same P tree l m same f.least;
       root = subst (LowestLeast (row P P.last) P.states) (sym (same P.last (omega arith))) f.root;
     }
-start_same P tree (Given x) l m same f = from_same P tree x l m same f
+start_same P tree (Some x) l m same f = from_same P tree x l m same f
 
 -- a labelling with the same states as one from a start is one from that start
 pub labelling_same : (P : Column) → Rooted P.last P.kids → (start : Start) (l m : ℕ → ℕ)
@@ -145,12 +145,12 @@ module _ (I : Input) (table : Allowed I) (j : ℕ) (inside : j < I.c) where
   -- the labelling by rows is that of the start, and there is no other
   pub labelling_of : (start : Start) → StateStart I j start → IsLabelling P start (labels_for P start)
   unfolding column_of label
-  labelling_of Free ok =
+  labelling_of None ok =
       record {
         least = record { least = label_least most_handed P sound; root = label_root_lowest most_handed P sound };
         children = λ p u. child_takes most_handed P sound (free_start P) p u;
       }
-  labelling_of (Given x) ok =
+  labelling_of (Some x) ok =
       record {
         least = rule_forced most_handed P sound rule_in_use in_use x ok.state ok.unbarred;
         children = λ p u. child_takes most_handed P sound x p u;
@@ -172,18 +172,18 @@ module _ (I : Input) (table : Allowed I) (j : ℕ) (inside : j < I.c) where
   -- what the sets start from is a set of states
   pub start_within : (start : Start) → SetStart I j start → start_or start (free_set P) < 2 ^ I.s
   unfolding column_of
-  start_within Free ok = free_within P
-  start_within (Given w) ok = ok.within
+  start_within None ok = free_within P
+  start_within (Some w) ok = ok.within
 
   -- the sets by rows are those of the start, and there are no others
   pub set_of_lem : (start : Start) → SetStart I j start → (v : ℕ) → v < nodes I → IsSet P start v (sets_for P start v)
   unfolding column_of sets
-  set_of_lem Free ok v h =
+  set_of_lem None ok v h =
       record {
         within = set_within most_handed P sound v (omega arith);
         members = λ y. set_exactly most_handed P sound v y (omega arith);
       }
-  set_of_lem (Given w) ok v h =
+  set_of_lem (Some w) ok v h =
       record {
         within = sets_within most_handed P sound w ok.within v (omega arith);
         members = λ y. set_from_exactly most_handed P sound w ok.within ok.unbarred v y (omega arith);

@@ -25,12 +25,12 @@ use Rattle.promises.specs.Promises.{
 }
 use Rattle.promises.specs.RowRoom.{Worked}
 use Rattle.promises.specs.Rules.{Rule, All}
-use Rattle.promises.specs.declared.Answer.{Answer}
-use Rattle.promises.specs.declared.Answer.TheVariants.{Done, Refused}
-use Rattle.promises.specs.declared.Start.{Start}
-use Rattle.promises.specs.declared.Start.TheVariants.{Free}
-use Rattle.promises.specs.declared.Valued.{Valued}
-use Rattle.promises.specs.declared.Valued.TheVariants as Value
+use Rattle.promises.specs.Answers.{Answer}
+use Rattle.std.specs.Prelude.{Ok, Err}
+use Rattle.promises.specs.Input.{Start}
+use Rattle.std.specs.Prelude.{None}
+use Rattle.promises.specs.Answers.{Valued}
+use Rattle.std.specs.Prelude.{Ok, Err}
 use Rattle.promises.proofs.AnswerLaws.{answer_unique}
 use Rattle.promises.proofs.ResultUnique.{label_unique, set_unique, entry_unique}
 use Rattle.promises.proofs.RuleLaws.{label_parts, work_parts}
@@ -47,22 +47,22 @@ module _ {rules : List Rule} {I : Input} {Kept Kept' Same : Type 0} where
       (same, at a f l (subst (λ c. LeftBy c Kept' Wrote') (sym same) m))
     where
       at : (a : Answer) → Given rules I a → LeftBy a Kept Wrote → LeftBy a Kept' Wrote' → Same
-      at Done f l m = done f.given l m
-      at (Refused r) f l m = refused l m
+      at (Ok u) f l m = done f.given l m
+      at (Err r) f l m = refused l m
 
   -- the same of answers with a number, on which what is written depends
   pub valued_outcome : (a b : Valued) (Wrote Wrote' : ℕ → Type 0) → Given rules I (answer_of a)
       → Given rules I (answer_of b) → LeftBy (answer_of a) Kept (Wrote (value_of a))
       → LeftBy (answer_of b) Kept' (Wrote' (value_of b)) → (Kept → Kept' → Same)
       → ((k m : ℕ) → All rules → Wrote k → Wrote' m → (k ≡ m) × Same) → (a ≡ b) × Same
-  valued_outcome (Value.Done k) (Value.Done m) W W' f g u v refused done =
-      let same = done k m f.given u v in (ap Value.Done same.0, same.1)
-  valued_outcome (Value.Done k) (Value.Refused q) W W' f g u v refused done =
+  valued_outcome (Ok k) (Ok m) W W' f g u v refused done =
+      let same = done k m f.given u v in (ap Ok same.0, same.1)
+  valued_outcome (Ok k) (Err q) W W' f g u v refused done =
       absurd (let e = answer_unique rules I _ _ f g in let z : ◌≡◌ {A = ℕ} 0 1 = cc in omega arith)
-  valued_outcome (Value.Refused r) (Value.Done m) W W' f g u v refused done =
+  valued_outcome (Err r) (Ok m) W W' f g u v refused done =
       absurd (let e = answer_unique rules I _ _ f g in let z : ◌≡◌ {A = ℕ} 0 1 = cc in omega arith)
-  valued_outcome (Value.Refused r) (Value.Refused q) W W' f g u v refused done =
-      let e = answer_unique rules I _ _ f g in (ap Value.Refused (cc), refused u v)
+  valued_outcome (Err r) (Err q) W W' f g u v refused done =
+      let e = answer_unique rules I _ _ f g in (ap Err (cc), refused u v)
 
 -- ---- any list
 
@@ -148,7 +148,7 @@ work_unique I table j inside states sets rows k m l1 s1 r1 l2 s2 r2 u v = (
   score_unique (column I j) k m u.score v.score,
   (
     states_same table inside u.labels v.labels,
-    each_same u.each v.each (set_unique (column I j) Free),
+    each_same u.each v.each (set_unique (column I j) None),
     room_same I j u.worked v.worked,
   ),
 )

@@ -14,15 +14,15 @@ use Rattle.parsimony.proofs.StateSetLaws.{set_same}
 use Rattle.parsimony.proofs.TieLaws.{takes_unique}
 use Rattle.parsimony.proofs.TreeLaws.{parent_has}
 use Rattle.promises.specs.Results.{StartLabels, IsLabelling, IsSet, IsEntry}
-use Rattle.promises.specs.declared.Start.{Start}
-use Rattle.promises.specs.declared.Start.TheVariants.{Free, Given}
+use Rattle.promises.specs.Input.{Start}
+use Rattle.std.specs.Prelude.{None, Some}
 
 -- two labellings from a start have the same root
 root_unique : (P : Column) (start : Start) (l m : ℕ → ℕ) → StartLabels P start l → StartLabels P start m
     → l P.last ≡ m P.last
-root_unique P Free l m f g =
+root_unique P None l m f g =
     lowest_least_unique (row P P.last) P.states (l P.last) (m P.last) f.root g.root
-root_unique P (Given x) l m f g = f.root ∙ sym g.root
+root_unique P (Some x) l m f g = f.root ∙ sym g.root
 
 -- and, in a tree, the same state at every node
 pub label_unique : (P : Column) → Rooted P.last P.kids → (start : Start) (l m : ℕ → ℕ) → IsLabelling P start l

@@ -31,7 +31,7 @@ use Rattle.promises.specs.CallRules.{
 use Rattle.promises.specs.Input.{Input, input, nodes, tips_in}
 use Rattle.promises.specs.Rules.{Rule, All, First}
 use Rattle.promises.specs.Starts.{StateStart, SetStart}
-use Rattle.promises.specs.declared.Start.{Start}
+use Rattle.promises.specs.Input.{Start}
 
 -- ---- any rules
 

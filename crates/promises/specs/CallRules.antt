@@ -8,7 +8,7 @@ use Rattle.parsimony.specs.Table.{Legal, SizeRules, TreeRules, symbol, handed}
 use Rattle.promises.specs.Input.{Input, nodes, node_in, tips_in}
 use Rattle.promises.specs.Rules.{Rule, rule}
 use Rattle.promises.specs.Starts.{StateStart, SetStart}
-use Rattle.promises.specs.declared.Start.{Start}
+use Rattle.promises.specs.Input.{Start}
 
 -- SIZE, SHAPE, COSTS, CELLS and ROWS
 abbrev pub size_rule : Input → Rule
@@ -76,15 +76,18 @@ pub record FitsWork (I : Input) (states sets rows : ℕ) : Type 0 where
 abbrev pub score_rules : Input → ℕ → ℕ → List Rule
 score_rules I scores rows = table_rules I ++ (room_rule (Fits I I.c scores rows) ∷ [])
 
+-- marking column j from a start, where May says which may be given, with room for so many marks and row entries
+abbrev pub started_rules : (Input → ℕ → Start → Type 0) → Input → ℕ → Start → ℕ → ℕ → List Rule
+started_rules May I j start marks rows =
+    table_rules I ++ (which_rule (ColumnAsked May I j start) ∷ room_rule (Fits I (nodes I) marks rows) ∷ [])
+
 -- labelling column j from a start, with room for so many states and row entries
 abbrev pub label_rules : Input → ℕ → Start → ℕ → ℕ → List Rule
-label_rules I j start states rows =
-    table_rules I ++ (which_rule (ColumnAsked StateStart I j start) ∷ room_rule (Fits I (nodes I) states rows) ∷ [])
+label_rules = started_rules StateStart
 
 -- the sets of column j from a start, with room for so many sets and row entries
 abbrev pub sets_rules : Input → ℕ → Start → ℕ → ℕ → List Rule
-sets_rules I j start sets rows =
-    table_rules I ++ (which_rule (ColumnAsked SetStart I j start) ∷ room_rule (Fits I (nodes I) sets rows) ∷ [])
+sets_rules = started_rules SetStart
 
 -- handing up column j, with room for so many entries and row entries
 abbrev pub hand_up_rules : Input → ℕ → ℕ → ℕ → List Rule

@@ -7,8 +7,8 @@ use Rattle.parsimony.specs.Written.{Written, Below, Each}
 use Rattle.promises.specs.Input.{Input, nodes, column}
 use Rattle.promises.specs.Results.{IsLabelling, IsSet, IsEntry}
 use Rattle.promises.specs.RowRoom.{Worked}
-use Rattle.promises.specs.declared.Start.{Start}
-use Rattle.promises.specs.declared.Start.TheVariants.{Free}
+use Rattle.promises.specs.Input.{Start}
+use Rattle.std.specs.Prelude.{None}
 
 -- the n states of the labelling of column j from a start
 abbrev pub StatesOf : Input → ℕ → Start → List ℕ → List ℕ → Type 0
@@ -48,8 +48,8 @@ RowWritten I j = ColumnWritten I j (EntriesOf I j)
 pub record WorkWritten (I : Input) (j : ℕ) (states sets rows : List ℕ) (k : ℕ) (states' sets' rows' : List ℕ)
     : Type 0 where
   pub score : IsScore (column I j) k
-  pub labels : StatesOf I j Free states states'
-  pub each : SetsOf I j Free sets sets'
+  pub labels : StatesOf I j None states states'
+  pub each : SetsOf I j None sets sets'
   pub worked : Worked I j rows rows'
 
 -- node v has the preliminary set w

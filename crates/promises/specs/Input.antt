@@ -1,10 +1,11 @@
 -- What a call is given to read.
 -- Assumes nothing.
-use Rattle.std.specs.Prelude.{List, ℕ, length}
+use Rattle.std.specs.Prelude.{List, [], ℕ, Option, length}
 use Rattle.std.specs.Borrow.{Bor}
 use denote.Triple.Both.{Both}
 use Rattle.parsimony.specs.Column.{Column, column_of}
 use Rattle.parsimony.specs.Table.{Kind, Node, node_at, tips}
+use Rattle.promises.specs.declared.table.Table.{Table}
 
 -- the tree table, the number of states and the costs, the number of columns, the cells and the handed entries
 pub record Input : Type 0 where
@@ -20,6 +21,18 @@ pub record Input : Type 0 where
 abbrev pub input : List ℕ → List ℕ → ℕ → List ℕ → ℕ → List ℕ → List ℕ → Input
 input left right s costs c cells handed =
     record { left = left; right = right; s = s; costs = costs; c = c; cells = cells; handed = handed }
+
+-- the input that a table holds
+abbrev pub input_of : Table → Input
+input_of T = input T.left.now T.right.now T.s T.costs.now T.c T.cells.now T.handed.now
+
+-- the input without its handed entries
+abbrev pub unhanded : Input → Input
+unhanded I = record I { handed = [] }
+
+-- a start for the root: none, or the state (labelling) or set of states (sets) that is given
+abbrev pub Start : Type 0
+Start = Option ℕ
 
 -- the input of a function as its `requires` names it: what the lists hold now, and these handed entries
 abbrev pub asked_with : Bor (List ℕ) → Bor (List ℕ) → ℕ → Bor (List ℕ) → ℕ → Bor (List ℕ) → List ℕ → Input

@@ -14,9 +14,9 @@ use Rattle.promises.specs.CallWrites.{
 }
 use Rattle.promises.specs.Input.{Input}
 use Rattle.promises.specs.Rules.{Rule}
-use Rattle.promises.specs.declared.Answer.{Answer}
-use Rattle.promises.specs.declared.Start.{Start}
-use Rattle.promises.specs.declared.Valued.{Valued}
+use Rattle.promises.specs.Answers.{Answer}
+use Rattle.promises.specs.Input.{Start}
+use Rattle.promises.specs.Answers.{Valued}
 
 -- scoring
 pub record Scored (I : Input) (scores rows : List ℕ) (a : Answer) (scores' rows' : List ℕ) : Type 0 where

@@ -10,8 +10,8 @@ use Rattle.parsimony.specs.Row.{row, through}
 use Rattle.parsimony.specs.StateSet.{Member}
 use Rattle.parsimony.specs.Tie.{TakesTie}
 use Rattle.parsimony.specs.Tree.{Has}
-use Rattle.promises.specs.declared.Start.{Start}
-use Rattle.promises.specs.declared.Start.TheVariants.{Free, Given}
+use Rattle.promises.specs.Input.{Start}
+use Rattle.std.specs.Prelude.{None, Some}
 
 -- a least labelling whose root is the lowest state at which the root's row is least
 pub record FreeLabels (P : Column) (l : ℕ → ℕ) : Type 0 where
@@ -20,8 +20,8 @@ pub record FreeLabels (P : Column) (l : ℕ → ℕ) : Type 0 where
 
 -- without a start such a labelling; with a start x one that is least among those with the root in x
 abbrev pub StartLabels : Column → Start → (ℕ → ℕ) → Type 0
-StartLabels P Free l = FreeLabels P l
-StartLabels P (Given x) l = LeastFrom P x l
+StartLabels P None l = FreeLabels P l
+StartLabels P (Some x) l = LeastFrom P x l
 
 -- the labelling from a start: each child takes the tie under its parent's state
 pub record IsLabelling (P : Column) (start : Start) (l : ℕ → ℕ) : Type 0 where
@@ -31,8 +31,8 @@ pub record IsLabelling (P : Column) (start : Start) (l : ℕ → ℕ) : Type 0 w
 
 -- state y is taken at node v: by some least labelling; with a start set, by some labelling least for one of its members
 abbrev pub TakenBy : Column → Start → ℕ → ℕ → Type 0
-TakenBy P Free v y = Taken P v y
-TakenBy P (Given w) v y = TakenFrom P w v y
+TakenBy P None v y = Taken P v y
+TakenBy P (Some w) v y = TakenFrom P w v y
 
 -- w is the set of node v: the states below s that are taken there
 pub record IsSet (P : Column) (start : Start) (v w : ℕ) : Type 0 where

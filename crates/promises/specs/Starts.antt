@@ -9,8 +9,8 @@ use Rattle.parsimony.specs.Row.{row}
 use Rattle.parsimony.specs.StateSet.{Member}
 use Rattle.parsimony.specs.Tie.{rule_in_use}
 use Rattle.promises.specs.Input.{Input, nodes, column}
-use Rattle.promises.specs.declared.Start.{Start}
-use Rattle.promises.specs.declared.Start.TheVariants.{Free, Given}
+use Rattle.promises.specs.Input.{Start}
+use Rattle.std.specs.Prelude.{None, Some}
 
 -- state x is not barred at the root in column j
 abbrev pub OpenRoot : Input → ℕ → ℕ → Type 0
@@ -29,18 +29,18 @@ pub record MayStartSet (I : Input) (j w : ℕ) : Type 0 where
 
 -- no start, or a state that may be given
 abbrev pub StateStart : Input → ℕ → Start → Type 0
-StateStart I j Free = Unit {0}
-StateStart I j (Given x) = MayStart I j x
+StateStart I j None = Unit {0}
+StateStart I j (Some x) = MayStart I j x
 
 -- no start, or a set of states that may be given
 abbrev pub SetStart : Input → ℕ → Start → Type 0
-SetStart I j Free = Unit {0}
-SetStart I j (Given w) = MayStartSet I j w
+SetStart I j None = Unit {0}
+SetStart I j (Some w) = MayStartSet I j w
 
 -- what a start gives the root: the one given, or else the free one
 abbrev pub start_or : Start → ℕ → ℕ
-start_or Free free = free
-start_or (Given x) free = x
+start_or None free = free
+start_or (Some x) free = x
 
 -- the labelling by rows from a start, by the tie rule in use
 abbrev pub labels_for : Column → Start → ℕ → ℕ

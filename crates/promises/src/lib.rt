@@ -1,6 +1,12 @@
 // What the table calls promise: definitions (specs/) and theorems (proofs/). This crate has no functions; it has the
-// types of the answers and of a start.
+// types of the table that a call is given and of the refusals.
 #![tactic(auto)]
+
+mod sound;
+mod table;
+
+pub use sound::Sound;
+pub use table::Table;
 
 // The refusals of the table calls, in the order of their numbers.
 #[derive(Clone, Copy)]
@@ -21,25 +27,4 @@ pub enum Refusal {
     NotUnit,
     // 8: an output or the row room is too short.
     Room,
-}
-
-// The answer of a call.
-#[derive(Clone, Copy)]
-pub enum Answer {
-    Done,
-    Refused(Refusal),
-}
-
-// The answer of a call that gives a number when it is done.
-#[derive(Clone, Copy)]
-pub enum Valued {
-    Done(usize),
-    Refused(Refusal),
-}
-
-// A start for the root: none, or the state (labelling) or set of states (sets) that is given.
-#[derive(Clone, Copy)]
-pub enum Start {
-    Free,
-    Given(usize),
 }

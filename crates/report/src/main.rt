@@ -2,15 +2,13 @@
 // is only what reads, goes from page to page, and writes.
 #![tactic(auto)]
 
-ghost use Rattle.std.specs.Prelude.{◌≡◌, ◌≤◌, length};
-ghost use Rattle.report_pages.specs.Page.{PrintableFrom};
-
-use parsimony::{BARRED, Cell, MOST_NODES, NO_CHILD};
+use parsimony::{MOST_NODES, NO_CHILD};
 use report_lines::frame::{columns_line, total_line};
-use report_pages::{MOST_ENTRIES, MOST_LINE, print_page, refusal_line};
-use sheet::{MOST_BYTES, Read, Sheet, read_sheet};
+use report_pages::{Progress, ReadSheet, Room, print_page, refusal_line};
+use report_text::Text;
+use sheet::{MOST_BYTES, read_sheet};
 use sheet_costs::flat_costs;
-use sheet_lines::{Fault, MOST_NAMES};
+use sheet_lines::MOST_NAMES;
 
 const STANDARD_INPUT: i32 = 0;
 
@@ -22,68 +20,29 @@ const SHEET_ROOM: usize = MOST_BYTES + 1;
 // What goes out in one write.
 const PAGE_ROOM: usize = 65536;
 
-// Writes the first bytes of a line.
-fn write_line(line: &[u8], size: usize)
-    requires { size ≤ length line.now }
-{
-    io::write_all(STANDARD_OUTPUT, &line[0..size]);
-}
-
-// Writes the line of a refused sheet.
-fn write_refusal(fault: Fault) {
-    let mut line = [0u8; 64];
-    let size = refusal_line(fault, &mut line);
-    write_line(&line, size);
+// Writes a text.
+fn write_text<const N: usize>(text: &Text<N>) {
+    io::write_all(STANDARD_OUTPUT, text.as_slice());
 }
 
 // Writes the lines of all columns, page by page, and answers the total.
-fn write_columns(sheet: &[u8], s: Sheet, costs: &[u16], left: &[u16], right: &[u16]) -> usize
-    requires printable_from { PrintableFrom sheet.now s costs.now left.now right.now 0 }
-    requires left_len { (length left.now ≡ 1023) × (length right.now ≡ 1023) }
-{
-    let mut cells: [Cell; MOST_NAMES] = [0; MOST_NAMES];
-    let mut states = [0u8; MOST_NODES];
-    let mut sets: [Cell; MOST_NODES] = [0; MOST_NODES];
-    let mut rows = [BARRED; MOST_ENTRIES];
-    let mut line = [0u8; MOST_LINE];
-    let mut page = [0u8; PAGE_ROOM];
-    let mut next = 0;
-    let mut total = 0;
-    while next < s.columns {
-        let printed = print_page(
-            sheet,
-            s,
-            costs,
-            left,
-            right,
-            next,
-            total,
-            &mut cells,
-            &mut states,
-            &mut sets,
-            &mut rows,
-            &mut line,
-            &mut page,
-        );
-        let size = printed.size;
-        io::write_all(STANDARD_OUTPUT, &page[0..size]);
-        next = printed.next;
-        total = printed.total;
+// It is a `while`, since each page says where the next one starts.
+fn write_columns(s: &ReadSheet) -> usize {
+    let mut room = Room::new();
+    let mut page: Text<PAGE_ROOM> = Text::new();
+    let mut done = Progress { next: 0, total: 0 };
+    while done.next < s.numbers.columns {
+        done = print_page(s, done, &mut room, &mut page);
+        write_text(&page);
     }
-    total
+    done.total
 }
 
 // Writes the report of a sound sheet.
-fn write_report(sheet: &[u8], s: Sheet, costs: &[u16], left: &[u16], right: &[u16])
-    requires printable_from { PrintableFrom sheet.now s costs.now left.now right.now 0 }
-    requires left_len { (length left.now ≡ 1023) × (length right.now ≡ 1023) }
-{
-    let mut line = [0u8; 64];
-    let size = columns_line(s.columns, &mut line);
-    write_line(&line, size);
-    let total = write_columns(sheet, s, costs, left, right);
-    let last = total_line(total, &mut line);
-    write_line(&line, last);
+fn write_report(s: &ReadSheet) {
+    write_text(&columns_line(s.numbers.columns));
+    let total = write_columns(s);
+    write_text(&total_line(total));
 }
 
 // Reads the sheet, and writes its report or its refusal.
@@ -93,10 +52,16 @@ fn report(sheet: &[u8]) {
     let mut left = [NO_CHILD; MOST_NODES];
     let mut right = [NO_CHILD; MOST_NODES];
     match read_sheet(sheet, &mut names, &mut table, &mut left, &mut right) {
-        Read::Faulty(fault) => write_refusal(fault),
-        Read::Sound(s) => {
+        Err(fault) => write_text(&refusal_line(fault)),
+        Ok(s) => {
             let costs = flat_costs(table);
-            write_report(sheet, s, &costs, &left, &right);
+            write_report(&ReadSheet {
+                bytes: sheet,
+                numbers: s,
+                costs: &costs,
+                left: &left,
+                right: &right,
+            });
         }
     }
 }

@@ -1,15 +1,11 @@
 -- How long the lines and their parts are.
 -- Assumes nothing.
-use mathlib.Core.List.{List, [], ◌∷◌, ◌++◌}
-use mathlib.Core.Path.{◌≡◌}
-use mir.Syntax.{w64}
-use mir.Val.{Fits}
-use Prim.Native.Nat.{ℕ, ◌+◌, ◌≤◌}
-use native.Mathlib.Omega.{arith}
-use lib.ListN.{length, length-append}
+use Rattle.std.proofs.Common.{◌≡◌, ℕ, ◌+◌, ◌^◌, ◌<◌, ◌≤◌, List, [], ◌∷◌, ◌++◌, length, refl, arith, length-append}
+use Rattle.std.proofs.lemmas.Grind.{common_steps}
+use Rattle.sheet_lines.specs.Bytes.{bytes}
 use Rattle.report_text.specs.Decimal.{decimal}
-use Rattle.report_text.proofs.DecimalLaws.{decimal_length}
-use Rattle.report_lines.specs.Frame.{word_line, number_line}
+use Rattle.report_text.proofs.NumberSteps.{number_fits}
+use Rattle.report_lines.specs.Frame.{word_line, refused_line}
 use Rattle.report_lines.specs.Line.{field, line_text}
 
 -- a field is its number and one byte
@@ -34,33 +30,15 @@ pub word_length : (word : List ℕ) (n : ℕ) → length (word_line word n) ≡ 
 unfolding word_line
 word_length word n = length-append word (decimal n)
 
--- a machine word has at most twenty digits
-pub number_length : {n : ℕ} → Fits w64 n → length (decimal n) ≤ 20
-number_length {n} word = decimal_length 19 n (omega (arith, word.fits))
+-- and so at most twenty bytes longer than the word
+pub word_most : (word : List ℕ) (n : ℕ) → n < 2 ^ 64 → length (word_line word n) ≤ length word + 20
+word_most word n small = let long = word_length word n in let digits = number_fits n small in omega arith
 
--- so there is room for a word and a number
-pub word_room : (word : List ℕ) (n room : ℕ) → Fits w64 n → length word + 20 ≤ room → length (word_line word n) ≤ room
-word_room word n room fits enough =
-    let long = word_length word n in let digits = number_length fits in omega arith
+-- the line of a refused sheet, its word byte by byte
+pub refused_bytes : (number place : ℕ) → refused_line number place
+    ≡ word_line (114 ∷ 101 ∷ 102 ∷ 117 ∷ 115 ∷ 101 ∷ 100 ∷ 32 ∷ []) number ++ (32 ∷ []) ++ decimal place ++ (10 ∷ [])
+unfolding refused_line bytes
+refused_bytes number place = refl
 
--- and for a line end after them
-pub number_room : (word : List ℕ) (n room : ℕ) → Fits w64 n → length word + 21 ≤ room
-    → length (number_line word n) ≤ room
-unfolding number_line
-number_room word n room fits enough =
-    let long = word_length word n in
-    let digits = number_length fits in
-    let all = length-append (word_line word n) (10 ∷ []) in
-    omega arith
-
--- or a space, a number and a line end
-pub refused_room : (word : List ℕ) (n m room : ℕ) → Fits w64 n → Fits w64 m → length word + 42 ≤ room
-    → length (word_line word n ++ (32 ∷ []) ++ decimal m ++ (10 ∷ [])) ≤ room
-refused_room word n m room fits fits_too enough =
-    let long = word_length word n in
-    let digits = number_length fits in
-    let digits_too = number_length fits_too in
-    let space = length-append (word_line word n) (32 ∷ []) in
-    let place = length-append (word_line word n ++ (32 ∷ [])) (decimal m) in
-    let all = length-append (word_line word n ++ (32 ∷ []) ++ decimal m) (10 ∷ []) in
-    omega arith
+-- what a word, a number and a second number need
+pub ruleset word_steps = (common_steps, word_most, number_fits, refused_bytes)

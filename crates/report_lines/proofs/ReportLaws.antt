@@ -1,10 +1,10 @@
 -- From what the scorer promises to the column's line: its parts, its bytes and its length.
 -- Assumes nothing.
-use mathlib.Core.List.{List}
-use mathlib.Core.Path.{◌≡◌, ap₂, ◌∙◌, subst}
-use Prim.Native.Nat.{ℕ, ◌≤◌, ◌<◌}
+use mathlib.Core.List.{List, ◌++◌}
+use mathlib.Core.Path.{◌≡◌, ap, ap₂, ◌∙◌, subst}
+use Prim.Native.Nat.{ℕ, ◌+◌, ◌≤◌, ◌<◌}
 use native.Mathlib.Omega.{arith}
-use lib.ListN.{length, get_or}
+use lib.ListN.{length, get_or, take}
 use Rattle.parsimony.specs.Allowed.{most_handed}
 use Rattle.parsimony.specs.Column.{Column, column_of}
 use Rattle.parsimony.specs.Label.{label}
@@ -19,9 +19,9 @@ use Rattle.promises.specs.Input.{Input, nodes, column}
 use Rattle.promises.specs.Promises.{ColumnWorked}
 use Rattle.promises.specs.Rules.{All}
 use Rattle.promises.specs.declared.Refusal.{Refusal}
-use Rattle.promises.specs.declared.Start.TheVariants.{Free}
-use Rattle.promises.specs.declared.Valued.{Valued}
-use Rattle.promises.specs.declared.Valued.TheVariants as Value
+use Rattle.std.specs.Prelude.{None}
+use Rattle.promises.specs.Answers.{Valued}
+use Rattle.std.specs.Prelude.{Ok, Err}
 use Rattle.promises.proofs.AnswerLaws.{all_unrefused}
 use Rattle.promises.proofs.Meaning.{score_meant, label_meant, set_of_lem, set_meant}
 use Rattle.promises.proofs.RuleLaws.{rules_of}
@@ -29,15 +29,13 @@ use Rattle.promises.proofs.TableLaws.{table_sound}
 use Rattle.report_marks.specs.Letters.{letters}
 use Rattle.report_marks.specs.OneState.{one_states}
 use Rattle.report_marks.specs.Quiet.{quiet_mark}
-use Rattle.report_marks.proofs.LetterLaws.{letters_length, letters_same}
-use Rattle.report_marks.proofs.OneStateLaws.{ones_same, ones_most}
+use Rattle.report_marks.proofs.LetterLaws.{letters_length, letters_same, letters_taken}
+use Rattle.report_marks.proofs.OneStateLaws.{ones_same, ones_most, ones_taken}
 use Rattle.report_marks.proofs.QuietLaws.{quiet_small}
-use Rattle.report_text.specs.Put.{Put}
 use Rattle.report_text.proofs.DecimalLaws.{decimal_length}
 use Rattle.report_lines.specs.Line.{line_text, column_line}
 use Rattle.report_lines.specs.Reports.{Reported}
 use Rattle.report_lines.proofs.LineLaws.{field_length, line_length}
-use Rattle.report_lines.proofs.LineSteps.{starts}
 
 module _ (I : Input) (table : Allowed I) (inside : 0 < I.c) where
   abbrev P : Column
@@ -74,46 +72,64 @@ module _ (I : Input) (table : Allowed I) (inside : 0 < I.c) where
     unfolding sets column_of
     ones_are =
         ones_same I.s cell_bits (λ v. get_or sets' v 0) (sets P) (nodes I)
-        (λ v h. let narrow = (set_of_lem I table 0 inside Free tt v h).within in
+        (λ v h. let narrow = (set_of_lem I table 0 inside None tt v h).within in
         let wide = states_fit I.s table.costs.most in
-        (set_meant I table 0 inside Free v _ tt h (done.each.right v h), narrow, omega arith))
+        (set_meant I table 0 inside None v _ tt h (done.each.right v h), narrow, omega arith))
 
     -- and the labels are those of the definition
     letters_are : letters (λ v. get_or states' v 0) (nodes I) ≡ letters (label P) (nodes I)
     unfolding label
     letters_are =
         letters_same (λ v. get_or states' v 0) (label P) (nodes I)
-        (label_meant I table 0 inside Free (λ v. get_or states' v 0) tt done.labels.right)
+        (label_meant I table 0 inside None (λ v. get_or states' v 0) tt done.labels.right)
 
-    -- what is put together from the scorer's work is the line
-    pub text_is : (number quiet ones : ℕ) → quiet ≡ quiet_mark I.cells
-        → ones ≡ one_states cell_bits (λ v. get_or sets' v 0) (nodes I)
-        → line_text number k quiet ones (letters (λ v. get_or states' v 0) (nodes I)) ≡ column_line I number
-    unfolding column_line
-    text_is number quiet ones q o =
-        let by_rows = score_meant I table 0 inside k done.score in
-        ap₂ (λ x y. line_text number x y ones (letters (λ v. get_or states' v 0) (nodes I))) by_rows q
-        ∙ ap₂ (line_text number (score P) (quiet_mark I.cells)) (o ∙ ones_are) letters_are
+    module _ (states_room : nodes I ≤ length l) (sets_room : nodes I ≤ length s) (some_states some_sets : List ℕ)
+        (el : some_states ≡ take (nodes I) states') (es : some_sets ≡ take (nodes I) sets') where
+      -- what is put together from the states and the sets of the nodes is the line
+      pub text_is : (number quiet ones : ℕ) → quiet ≡ quiet_mark I.cells
+          → ones ≡ one_states cell_bits (λ v. get_or some_sets v 0) (length some_sets)
+          → line_text number k quiet ones (letters (λ v. get_or some_states v 0) (length some_states))
+          ≡ column_line I number
+      unfolding column_line
+      text_is number quiet ones q o =
+          let by_rows = score_meant I table 0 inside k done.score in
+          let states_long = done.labels.long in
+          let sets_long = done.each.long in
+          let count = o ∙ ap (λ l. one_states cell_bits (λ v. get_or l v 0) (length l)) es
+          ∙ ones_taken cell_bits sets' (nodes I) (omega arith) ∙ ones_are in
+          let labels = ap (λ l. letters (λ v. get_or l v 0) (length l)) el
+          ∙ letters_taken states' (nodes I) (omega arith) ∙ letters_are in
+          ap₂ (λ x y. line_text number x y ones (letters (λ v. get_or some_states v 0) (length some_states))) by_rows q
+          ∙ ap₂ (line_text number (score P) (quiet_mark I.cells)) count labels
+
+      -- and there is room for it
+      pub line_fits : (number quiet ones start room : ℕ) → number ≤ 65535 → quiet ≡ quiet_mark I.cells
+          → ones ≡ one_states cell_bits (λ v. get_or some_sets v 0) (length some_sets) → start + 1056 ≤ room
+          → start + length (line_text number k quiet ones (letters (λ v. get_or some_states v 0) (length some_states)))
+          ≤ room
+      line_fits number quiet ones start room few q o fits =
+          let most = line_most number few in
+          let same = ap length (text_is number quiet ones q o) in
+          omega (arith, most, same, fits)
 
     -- and what is promised
-    pub report_is : (number : ℕ) {line line' text : List ℕ} {size : ℕ} → number ≤ 65535 → 1056 ≤ length line
-        → text ≡ column_line I number → Put text 0 line line' size
-        → Reported I number l s r line size k states' sets' rows' line'
-    report_is number {line} {line'} {text} {size} few room is put =
+    pub report_is : (number : ℕ) {line line' text : List ℕ} → text ≡ column_line I number → line' ≡ line ++ text
+        → Reported I number l s r line k states' sets' rows' line'
+    report_is number {line} is put =
         record {
-          text = starts (subst (λ t. Put t 0 line line' size) is put) (let most = line_most number few in omega arith);
+          text = put ∙ ap (λ t. line ++ t) is;
           score = score_meant I table 0 inside k done.score;
           worked = done;
         }
 
 -- where all rules hold the work is done
-pub worked_done : {I : Input} {states sets rows states' sets' rows' : List ℕ} {a : Valued} {k : ℕ} → a ≡ Value.Done k
+pub worked_done : {I : Input} {states sets rows states' sets' rows' : List ℕ} {a : Valued} {k : ℕ} → a ≡ Ok k
     → ColumnWorked I 0 states sets rows a states' sets' rows' → WorkWritten I 0 states sets rows k states' sets' rows'
 worked_done {I} {states} {sets} {rows} {states'} {sets'} {rows'} is promise =
     (subst (λ b. ColumnWorked I 0 states sets rows b states' sets' rows') is promise).lists
 
 pub worked_unrefused : {I : Input} {states sets rows states' sets' rows' : List ℕ} {a : Valued} {r : Refusal}
-    → a ≡ Value.Refused r
+    → a ≡ Err r
     → All (work_rules I 0 (length states) (length sets) (length rows))
     → ColumnWorked I 0 states sets rows a states' sets' rows' → ⊥
 worked_unrefused {I} {states} {sets} {rows} {states'} {sets'} {rows'} {a} {r} is all promise =

@@ -1,12 +1,13 @@
--- The letters of the labels: how many, what they depend on, and how they are put one by one.
+-- The letters of the labels: how many, what they depend on, and how they are put one after the other.
 -- Assumes nothing.
 use mathlib.Core.List.{List, [], ◌∷◌, ◌++◌}
-use mathlib.Core.Path.{◌≡◌, refl, ap, ap₂, sym, ◌∙◌, subst}
+use mathlib.Core.Path.{◌≡◌, refl, ap, ap₂, sym, ◌∙◌}
 use Prim.Native.Nat.{ℕ, zero, suc, ◌+◌, ◌≤◌, ◌<◌}
 use native.Mathlib.Omega.{arith}
-use lib.ListN.{length, length-append, set}
-use Rattle.report_text.specs.Put.{Put}
-use Rattle.report_text.proofs.PutLaws.{put_then, put_one}
+use lib.ListN.{length, length-append, get_or, take}
+use Rattle.std.proofs.Common.{length-take-le, get_or-take}
+use Rattle.std.specs.List.{AllZip}
+use Rattle.report_text.specs.Mapped.{Mapped}
 use Rattle.report_marks.specs.Letters.{letter_of, letters}
 
 -- a letter for each node
@@ -31,51 +32,32 @@ pub letters_more : (l : ℕ → ℕ) (n : ℕ) → letters l (n + 1) ≡ letters
 unfolding letters
 letters_more l n = let next : n + 1 ≡ suc n = omega arith in ap (letters l) next
 
--- the letter of a state past 2
-pub letter_last : (x : ℕ) → (x ≡ 0 → ⊥) → (x ≡ 1 → ⊥) → (x ≡ 2 → ⊥) → 84 ≡ letter_of x
-unfolding letter_of
-letter_last zero a b c = absurd (a refl)
-letter_last (suc zero) a b c = absurd (b refl)
-letter_last (suc (suc zero)) a b c = absurd (c refl)
-letter_last (suc (suc (suc x))) a b c = refl
-
--- and of the others
-pub letter_0 : {x : ℕ} → x ≡ 0 → 65 ≡ letter_of x
-unfolding letter_of
-letter_0 e = ap letter_of (sym e)
-
-pub letter_1 : {x : ℕ} → x ≡ 1 → 67 ≡ letter_of x
-unfolding letter_of
-letter_1 e = ap letter_of (sym e)
-
-pub letter_2 : {x : ℕ} → x ≡ 2 → 71 ≡ letter_of x
-unfolding letter_of
-letter_2 e = ap letter_of (sym e)
-
--- the letters of the first v of n nodes are put
-pub record Lettered (l : ℕ → ℕ) (n at : ℕ) (line now : List ℕ) (v : ℕ) : Type 0 where
-  pub few : v ≤ n
-  pub put : Put (letters l v) at line now (at + v)
-
--- none at the start
-pub lettered_none : (l : ℕ → ℕ) (n at : ℕ) (line : List ℕ) → Lettered l n at line line 0
+-- the first letter, and then the others
+letters_first : (l : ℕ → ℕ) (n : ℕ) → letters l (suc n) ≡ letter_of (l 0) ∷ letters (λ v. l (suc v)) n
 unfolding letters
-lettered_none l n at line = record { few = omega arith; put = record { written = refl; end = omega arith } }
+letters_first l zero = refl
+letters_first l (suc n) = ap (λ low. low ++ (letter_of (l (suc n)) ∷ [])) (letters_first l n)
 
--- one letter more
-pub lettered_more : (l : ℕ → ℕ) (n at : ℕ) (line now : List ℕ) (v byte : ℕ) → v < n → byte ≡ letter_of (l v)
-    → Lettered l n at line now v → Lettered l n at line (set now (at + v) byte) (v + 1)
-lettered_more l n at line now v byte inside is so_far =
-    record {
-      few = omega arith;
-      put = subst (λ text. Put text at line (set now (at + v) byte) (at + (v + 1)))
-          (ap (λ b. letters l v ++ (b ∷ [])) is ∙ sym (letters_more l v))
-          (put_then so_far.put (put_one byte now (at + v) (at + (v + 1)) (omega arith)));
-    }
+-- what makes a letter of each state makes the letters
+letters_made : (f : ℕ → ℕ → Type 0) → ((x y : ℕ) → f x y → y ≡ letter_of x) → (states made : List ℕ)
+    → AllZip f states made → made ≡ letters (λ v. get_or states v 0) (length states)
+unfolding letters
+letters_made f is [] [] each = refl
+letters_made f is [] (y ∷ made) each = absurd each
+letters_made f is (x ∷ states) [] each = absurd each
+letters_made f is (x ∷ states) (y ∷ made) (first, each) =
+    ap₂ (λ letter more. letter ∷ more) (is x y first) (letters_made f is states made each)
+    ∙ sym (letters_first (λ v. get_or (x ∷ states) v 0) (length states))
 
--- all letters
-pub lettered_all : {l : ℕ → ℕ} {n at v : ℕ} {line now : List ℕ} → n ≤ v → Lettered l n at line now v
-    → Put (letters l n) at line now (at + n)
-lettered_all {l} {n} {at} {v} {line} {now} over so_far =
-    let same : v ≡ n = omega (arith, so_far.few) in
-    subst (λ k. Put (letters l k) at line now (at + k)) same so_far.put
+-- and puts them after a text
+pub letters_mapped : (f : ℕ → ℕ → Type 0) → ((x y : ℕ) → f x y → y ≡ letter_of x) → (states before after : List ℕ)
+    → Mapped f states before after → after ≡ before ++ letters (λ v. get_or states v 0) (length states)
+letters_mapped f is states before after (made, each, put) =
+    put ∙ ap (λ text. before ++ text) (letters_made f is states made each)
+
+-- the letters of the first n states of a list
+pub letters_taken : (states : List ℕ) (n : ℕ) → n ≤ length states
+    → letters (λ v. get_or (take n states) v 0) (length (take n states)) ≡ letters (λ v. get_or states v 0) n
+letters_taken states n inside =
+    ap (letters (λ v. get_or (take n states) v 0)) (length-take-le n states inside)
+    ∙ letters_same _ _ n (λ v h. get_or-take n states v 0 h)

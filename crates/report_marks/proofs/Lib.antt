@@ -2,6 +2,7 @@
 -- Assumes nothing.
 pub mod LetterLaws
 pub mod OneStateLaws
+pub mod CountLaws
 pub mod QuietSteps
 pub mod QuietLaws
 pub mod Cases

@@ -1,8 +1,33 @@
--- The one-state count: what it depends on, its most, and how the sets are counted one by one.
+-- The one-state count: what it depends on, its most, and that it counts the sets of a list.
 -- Assumes nothing.
-use mathlib.Core.Path.{◌≡◌, refl, ap, sym, ◌∙◌}
-use Prim.Native.Nat.{ℕ, zero, suc, ◌+◌, ◌^◌, ◌≤◌, ◌<◌}
-use native.Mathlib.Omega.{arith}
+use Rattle.std.proofs.Common.{
+  ◌≡◌,
+  ℕ,
+  zero,
+  suc,
+  ◌+◌,
+  ◌^◌,
+  ◌≤◌,
+  ◌<◌,
+  ◌==◌,
+  cond,
+  List,
+  [],
+  ◌∷◌,
+  length,
+  get_or,
+  take,
+  length-take-le,
+  get_or-take,
+  ap,
+  sym,
+  ◌∙◌,
+  arith,
+}
+use Rattle.std.specs.List.{count_by}
+use Rattle.std.proofs.lemmas.List.Recursion.{is_count_by}
+use lib.Seq.{take_all}
+use borrow.Author.Tests.{eq-eqb, ne_eqb}
 use Rattle.parsimony.specs.StateSet.{size}
 use Rattle.parsimony.specs.Sum.{sum}
 use Rattle.parsimony.specs.Test.{at}
@@ -25,52 +50,55 @@ ones_same s t S T n same =
     ∙ ap (at 1 1) (size_wide s t (T v) narrow wide))
 
 -- whether a set has one state
-pub single_yes : (s w count : ℕ) → count ≡ size s w → count ≡ 1 → 1 ≡ single s w
+single_cond : (s w : ℕ) (rest : ℕ) → single s w + rest ≡ cond (size s w == 1) (1 + rest) rest
 unfolding single
-single_yes s w count is one = sym (at_same 1 1 (size s w) (sym one ∙ is))
+single_cond s w rest =
+    by_eq (size s w) 1
+    (λ e. let is = at_same 1 1 (size s w) (sym e) in
+    let yes = ap (λ b. cond b (1 + rest) rest) (eq-eqb _ _ e) in
+    omega arith)
+    (λ ne. let is = at_other 1 1 (size s w) (λ e. ne (sym e)) in
+    let no = ap (λ b. cond b (1 + rest) rest) (ne_eqb _ _ ne) in
+    omega arith)
 
-pub single_no : (s w count : ℕ) → count ≡ size s w → (count ≡ 1 → ⊥) → 0 ≡ single s w
-unfolding single
-single_no s w count is more = sym (at_other 1 1 (size s w) (λ e. more (is ∙ sym e)))
+-- the sum of a function over the numbers below a bound, its first place by itself
+sum_first : (f : ℕ → ℕ) (n : ℕ) → sum f (suc n) ≡ f 0 + sum (λ i. f (suc i)) n
+unfolding sum
+sum_first f zero = omega arith
+sum_first f (suc n) = let rest = sum_first f n in omega arith
 
--- one set more
-pub ones_more : (s : ℕ) (S : ℕ → ℕ) (n : ℕ) → one_states s S (n + 1) ≡ one_states s S n + single s (S n)
+-- the sets in a list: as many as have one state
+ones_count : (s : ℕ) (sets : List ℕ) → one_states s (λ v. get_or sets v 0) (length sets)
+    ≡ count_by (λ w. size s w == 1) sets
 unfolding one_states
-ones_more s S n =
-    let next : n + 1 ≡ suc n = omega arith in
-    ap (sum (λ v. single s (S v))) next ∙ sum_suc (λ v. single s (S v)) n
+ones_count s =
+    is_count_by (λ sets. one_states s (λ v. get_or sets v 0) (length sets)) (λ w. size s w == 1)
+    (sum_zero (λ v. single s (get_or [] v 0)))
+    (λ w sets. sum_first (λ v. single s (get_or (w ∷ sets) v 0)) (length sets)
+    ∙ single_cond s w (one_states s (λ v. get_or sets v 0) (length sets)))
+
+-- all sets are counted
+pub ones_all : (s : ℕ) (sets : List ℕ) {count i : ℕ} → length sets ≤ i
+    → count ≡ count_by (λ set. size s set == 1) (take i sets)
+    → count ≡ one_states s (λ v. get_or sets v 0) (length sets)
+ones_all s sets {i} over is =
+    is ∙ ap (count_by (λ set. size s set == 1)) (take_all i sets over) ∙ sym (ones_count s sets)
 
 -- at most all of them have one state
 pub ones_most : (s : ℕ) (S : ℕ → ℕ) (n : ℕ) → one_states s S n ≤ n
-unfolding one_states
+unfolding one_states single
 ones_most s S zero = let none = sum_zero (λ v. single s (S v)) in omega arith
 ones_most s S (suc n) =
     let low = ones_most s S n in
     let more = sum_suc (λ v. single s (S v)) n in
-    let top : single s (S n) ≤ 1 = by_eq (size s (S n)) 1 (λ e. let is = single_yes s (S n) _ refl e in omega arith)
-    (λ ne. let is = single_no s (S n) _ refl ne in omega arith) in
+    let top : single s (S n) ≤ 1 = by_eq 1 (size s (S n)) (λ e. let is = at_same 1 1 _ e in omega arith)
+    (λ ne. let is = at_other 1 1 _ ne in omega arith) in
     omega arith
 
--- of the first v of n sets so many have one of s states
-pub record CountedTo (s : ℕ) (S : ℕ → ℕ) (n count v : ℕ) : Type 0 where
-  pub few : v ≤ n
-  pub is : count ≡ one_states s S v
-
--- none at the start
-pub counted_none : (s : ℕ) (S : ℕ → ℕ) (n : ℕ) → CountedTo s S n 0 0
-counted_none s S n = record { few = omega arith; is = let most = ones_most s S 0 in omega arith }
-
--- one set more
-pub counted_more : (s : ℕ) (S : ℕ → ℕ) (n count v here : ℕ) → v < n → here ≡ single s (S v) → CountedTo s S n count v
-    → CountedTo s S n (count + here) (v + 1)
-counted_more s S n count v here inside one so_far =
-    record { few = omega arith; is = let more = ones_more s S v in omega (arith, so_far.is) }
-
--- no more than there are sets
-pub counted_most : {s n count v : ℕ} {S : ℕ → ℕ} → CountedTo s S n count v → count ≤ v
-counted_most {s} {n} {count} {v} {S} so_far = let most = ones_most s S v in omega (arith, so_far.is)
-
--- all sets
-pub counted_all : {s n count v : ℕ} {S : ℕ → ℕ} → n ≤ v → CountedTo s S n count v → count ≡ one_states s S n
-counted_all {s} {n} {count} {v} {S} over so_far =
-    let same : v ≡ n = omega (arith, so_far.few) in so_far.is ∙ ap (one_states s S) same
+-- the first n sets of a list: as many of one state
+pub ones_taken : (s : ℕ) (sets : List ℕ) (n : ℕ) → n ≤ length sets
+    → one_states s (λ v. get_or (take n sets) v 0) (length (take n sets)) ≡ one_states s (λ v. get_or sets v 0) n
+unfolding one_states
+ones_taken s sets n inside =
+    ap (sum (λ v. single s (get_or (take n sets) v 0))) (length-take-le n sets inside)
+    ∙ sum_same _ _ n (λ v h. ap (single s) (get_or-take n sets v 0 h))

@@ -3,7 +3,7 @@
 use mathlib.Core.Bool.{Bool, true, false}
 use mathlib.Core.List.{List}
 use mathlib.Core.Logic.{◌↔◌}
-use mathlib.Core.Path.{◌≡◌, refl}
+use mathlib.Core.Path.{◌≡◌}
 use Prim.Native.Nat.{ℕ, zero, suc, ◌≤◌, ◌<◌}
 use native.Mathlib.Omega.{arith}
 use borrow.Author.Tests.{lt-ltb, le-ltb}
@@ -23,13 +23,13 @@ TwoBases cells = (x : ℕ) × (y : ℕ) × (x < y) × (y < 4) × (2 ≤ tally (o
 -- a base that is marked occurs at two tips, and is marked once
 often_means : (cells : List ℕ) (x : ℕ) → 1 ≤ often cells x → 2 ≤ tally (one x) cells
 often_means cells x marked =
-    by_lt (tally (one x) cells) 2 (λ few. absurd (let none = often_no cells x refl refl few in omega arith))
+    by_lt (tally (one x) cells) 2 (λ few. absurd (let none = often_no cells x few in omega arith))
     (λ many. many)
 
 often_most : (cells : List ℕ) (x : ℕ) → often cells x ≤ 1
 often_most cells x =
-    by_lt (tally (one x) cells) 2 (λ few. let none = often_no cells x refl refl few in omega arith)
-    (λ many. let marked = often_yes cells x refl refl many in omega arith)
+    by_lt (tally (one x) cells) 2 (λ few. let none = often_no cells x few in omega arith)
+    (λ many. let marked = often_yes cells x many in omega arith)
 
 -- marks of at most 1 that come to two or more stand at two places
 two_marks : (f : ℕ → ℕ) → ((i : ℕ) → f i ≤ 1) → (n : ℕ) → 2 ≤ sum f n
@@ -51,8 +51,8 @@ quiet_means cells = (
       (λ few. absurd (let mark = pick_true {A = ℕ} 1 0 (lt-ltb (sum (often cells) 4) 2 few) in omega arith))
       (λ many. let (x, y, below, in_range, fx, fy) = two_marks (often cells) (often_most cells) 4 many in
       (x, y, below, in_range, often_means cells x fx, often_means cells y fy))),
-  (λ (x, y, below, in_range, tx, ty). let first = often_yes cells x refl refl tx in
-      let second = often_yes cells y refl refl ty in
+  (λ (x, y, below, in_range, tx, ty). let first = often_yes cells x tx in
+      let second = often_yes cells y ty in
       let both = sum_two (often cells) 4 x y below in_range in
       pick_false {A = ℕ} 1 0 (le-ltb (sum (often cells) 4) 2 (omega arith))),
 )

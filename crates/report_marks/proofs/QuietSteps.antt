@@ -1,77 +1,110 @@
--- Counting cells one by one, and the marks that follow from a count.
+-- Counting the cells of a list, and the marks that follow from a count.
 -- Assumes nothing.
-use mathlib.Core.List.{List}
-use mathlib.Core.Path.{◌≡◌, ap, sym}
-use Prim.Native.Nat.{ℕ, suc, ◌+◌, ◌≤◌, ◌<◌}
-use native.Mathlib.Omega.{arith}
-use borrow.Author.Tests.{lt-ltb, le-ltb}
-use lib.ListN.{length, get_or, drop, drop_of_length-le}
-use lib.Seq.{drop-cons}
+use Rattle.std.proofs.Common.{
+  ◌≡◌,
+  ℕ,
+  ◌+◌,
+  ◌≤◌,
+  ◌<◌,
+  ◌==◌,
+  cond,
+  ltb,
+  leb,
+  Bool,
+  true,
+  false,
+  List,
+  [],
+  ◌∷◌,
+  length,
+  take,
+  refl,
+  ap,
+  sym,
+  ◌∙◌,
+  arith,
+}
+use Rattle.std.specs.List.{count_by}
+use Rattle.std.proofs.lemmas.List.Recursion.{is_count_by}
+use Rattle.std.proofs.lemmas.List.Sums.{sum_by-cons}
+use borrow.Author.Tests.{lt-ltb, le-ltb, eq-eqb, ne_eqb}
+use lib.Seq.{take_all}
+use mir.Val.{bool_byte}
+use Rattle.std.proofs.lemmas.Bool.{lt-leb, le-leb}
 use Rattle.parsimony.specs.StateSet.{one}
 use Rattle.parsimony.specs.Sum.{sum}
-use Rattle.parsimony.specs.Test.{at}
-use Rattle.parsimony.proofs.Order.{pick_true, pick_false}
+use Rattle.parsimony.specs.Test.{at, pick}
+use Rattle.parsimony.proofs.Order.{by_eq, by_lt, at_same, at_other, pick_true, pick_false}
 use Rattle.report_marks.specs.Quiet.{tally, often, quiet_mark}
 
--- of the first i cells so many are the set w
-pub record Tallied (w : ℕ) (cells : List ℕ) (count i : ℕ) : Type 0 where
-  pub inside : i ≤ length cells
-  pub few : count ≤ i
-  pub rest : count + tally w (drop i cells) ≡ tally w cells
+-- whether a cell is the set w
+at_cond : (w cell rest : ℕ) → at w 1 cell + rest ≡ cond (cell == w) (1 + rest) rest
+at_cond w cell rest =
+    by_eq cell w
+    (λ e. let is = at_same w 1 cell (sym e) in
+    let yes = ap (λ b. cond b (1 + rest) rest) (eq-eqb _ _ e) in
+    omega arith)
+    (λ ne. let is = at_other w 1 cell (λ e. ne (sym e)) in
+    let no = ap (λ b. cond b (1 + rest) rest) (ne_eqb _ _ ne) in
+    omega arith)
 
--- none at the start
-pub tallied_none : (w : ℕ) (cells : List ℕ) → Tallied w cells 0 0
-tallied_none w cells = record { inside = omega arith; few = omega arith; rest = omega arith }
-
--- one cell more
-pub tallied_more : (w count i here : ℕ) (cells : List ℕ) → i < length cells → Tallied w cells count i
-    → (here ≡ at w 1 (get_or cells i 0)) × (here ≤ 1) → Tallied w cells (count + here) (i + 1)
+-- the cells of a list that are the set w
+tally_count : (w : ℕ) (cells : List ℕ) → tally w cells ≡ count_by (λ cell. cell == w) cells
 unfolding tally
-tallied_more w count i here cells inside so_far (is, most) =
-    let next : i + 1 ≡ suc i = omega arith in
-    let cell = ap (tally w) (drop-cons cells i 0 inside) in
-    let rest = ap (λ k. tally w (drop k cells)) next in
-    let before = so_far.rest in
-    record { inside = omega arith; few = omega (arith, so_far.few); rest = omega arith }
+tally_count w = is_count_by (tally w) (λ cell. cell == w) refl (λ cell cells. at_cond w cell (tally w cells))
 
--- all cells
-pub tallied_all : (w count i : ℕ) (cells : List ℕ) → length cells ≤ i → Tallied w cells count i → count ≡ tally w cells
-unfolding tally
-tallied_all w count i cells over so_far =
-    let none = ap (tally w) (drop_of_length-le cells over) in
-    omega (arith, so_far.rest)
+-- all cells are counted
+pub tally_all : (w : ℕ) (cells : List ℕ) {count i : ℕ} → length cells ≤ i
+    → count ≡ count_by (λ cell. cell == w) (take i cells) → count ≡ tally w cells
+tally_all w cells {i} over is =
+    is ∙ ap (count_by (λ cell. cell == w)) (take_all i cells over) ∙ sym (tally_count w cells)
 
 -- whether a base occurs often, by its count
-pub often_no : (cells : List ℕ) (x : ℕ) {w count : ℕ} → w ≡ one x → count ≡ tally w cells → count < 2
-    → 0 ≡ often cells x
+pub often_no : (cells : List ℕ) (x : ℕ) → tally (one x) cells < 2 → 0 ≡ often cells x
 unfolding often
-often_no cells x {w} plain is few =
-    let same = ap (λ u. tally u cells) plain in
-    sym (pick_true _ _ (lt-ltb (tally (one x) cells) 2 (omega arith)))
+often_no cells x few = sym (pick_true _ _ (lt-ltb (tally (one x) cells) 2 few))
 
-pub often_yes : (cells : List ℕ) (x : ℕ) {w count : ℕ} → w ≡ one x → count ≡ tally w cells → 2 ≤ count
-    → 1 ≡ often cells x
+pub often_yes : (cells : List ℕ) (x : ℕ) → 2 ≤ tally (one x) cells → 1 ≡ often cells x
 unfolding often
-often_yes cells x {w} plain is many =
+often_yes cells x many = sym (pick_false _ _ (le-ltb (tally (one x) cells) 2 many))
+
+-- base x, whose plain set is w, is counted where it occurs often
+often_counted : (cells : List ℕ) (x w : ℕ) (bases : List ℕ) → w ≡ one x
+    → count_by (λ base. leb 2 (tally base cells)) (w ∷ bases)
+    ≡ often cells x + count_by (λ base. leb 2 (tally base cells)) bases
+often_counted cells x w bases plain =
     let same = ap (λ u. tally u cells) plain in
-    sym (pick_false _ _ (le-ltb (tally (one x) cells) 2 (omega arith)))
+    let rest = count_by (λ base. leb 2 (tally base cells)) bases in
+    sum_by-cons (λ base. cond (leb 2 (tally base cells)) 1 0) w bases
+    ∙ by_lt (tally w cells) 2
+    (λ few. let no = often_no cells x (omega arith) in
+    ap (λ b. cond b 1 0 + rest) (lt-leb 2 _ few) ∙ omega arith)
+    (λ many. let yes = often_yes cells x (omega arith) in
+    ap (λ b. cond b 1 0 + rest) (le-leb 2 _ many) ∙ omega arith)
 
--- the four bases, one by one
-four_bases : (f : ℕ → ℕ) → sum f 4 ≡ f 0 + f 1 + f 2 + f 3
-unfolding sum
-four_bases f = omega arith
+-- the plain bases that occur often, one by one
+bases_counted : (cells : List ℕ)
+    → count_by (λ base. leb 2 (tally base cells)) (1 ∷ 2 ∷ 4 ∷ 8 ∷ []) ≡ sum (often cells) 4
+unfolding sum one
+bases_counted cells =
+    let a = often_counted cells 0 1 (2 ∷ 4 ∷ 8 ∷ []) refl in
+    let c = often_counted cells 1 2 (4 ∷ 8 ∷ []) refl in
+    let g = often_counted cells 2 4 (8 ∷ []) refl in
+    let t = often_counted cells 3 8 [] refl in
+    omega arith
 
--- the mark by the number of bases that occur often
-pub quiet_yes : (cells : List ℕ) → often cells 0 + often cells 1 + often cells 2 + often cells 3 < 2
-    → 1 ≡ quiet_mark cells
+-- 1 where a test holds, else 0
+test_byte : (b : Bool) → bool_byte b ≡ pick b 1 0
+unfolding pick
+test_byte true = refl
+test_byte false = refl
+
+-- the mark, by the count of the plain bases that occur often
+pub quiet_is : (cells : List ℕ) {bases : List ℕ} {count i : ℕ} → bases ≡ 1 ∷ 2 ∷ 4 ∷ 8 ∷ [] → length bases ≤ i
+    → count ≡ count_by (λ base. leb 2 (tally base cells)) (take i bases)
+    → bool_byte (ltb count 2) ≡ quiet_mark cells
 unfolding quiet_mark
-quiet_yes cells few =
-    let bases = four_bases (often cells) in
-    sym (pick_true _ _ (lt-ltb (sum (often cells) 4) 2 (omega arith)))
-
-pub quiet_no : (cells : List ℕ) → 2 ≤ often cells 0 + often cells 1 + often cells 2 + often cells 3
-    → 0 ≡ quiet_mark cells
-unfolding quiet_mark
-quiet_no cells many =
-    let bases = four_bases (often cells) in
-    sym (pick_false _ _ (le-ltb (sum (often cells) 4) 2 (omega arith)))
+quiet_is cells {bases} {i = i} four over is =
+    test_byte _
+    ∙ ap (λ n. pick (ltb n 2) 1 0)
+    (is ∙ ap (count_by (λ base. leb 2 (tally base cells))) (take_all i bases over ∙ four) ∙ bases_counted cells)

@@ -18,6 +18,7 @@ use Rattle.sheet_tips.specs.Nodes.{lefts, rights}
 use Rattle.sheet_tree.proofs.PairSteps.{lefts_long}
 use Rattle.report_pages.specs.SheetLine.{line_in, score_in, Printed, Printable, PrintedOf}
 use Rattle.report_lines.specs.Reports.{Reported}
+use Rattle.report_lines.proofs.ReportLaws.{line_most}
 use Rattle.sheet_sections.proofs.SheetLaws.{sheet_read}
 use Rattle.sheet_symbols.specs.Code.{symbol_set}
 use Rattle.sheet.specs.Cells.{Inside, Filled}
@@ -94,6 +95,11 @@ module _ (sheet : List ℕ) (s : Sheet) (costs left right : List ℕ) (j : ℕ) 
     pub printable_allowed : Allowed (table_of sheet has j)
     printable_allowed = sheet_allowed sheet has from j ready.inside
 
+    -- and its line is at most 1,056 bytes long
+    pub printable_most : length (line_in sheet has j) ≤ 1056
+    unfolding line_in
+    printable_most = line_most (table_of sheet has j) printable_allowed (omega arith) j printable_nodes.1
+
     -- and its score is below the barred entry
     pub printable_score : score_in sheet has j < barred
     unfolding score_in
@@ -102,14 +108,13 @@ module _ (sheet : List ℕ) (s : Sheet) (costs left right : List ℕ) (j : ℕ) 
         score_open most_handed (column I 0) (table_sound I printable_allowed 0 (omega arith))
 
     -- and its line is the column's
-    pub printable_line : (I : Input) → I ≡ table_of sheet has j → (states sets rows line : List ℕ) (size k : ℕ)
+    pub printable_line : (I : Input) → I ≡ table_of sheet has j → (states sets rows line : List ℕ) (k : ℕ)
         (states' sets' rows' line' : List ℕ)
-        → Reported I j states sets rows line size k states' sets' rows' line' → PrintedOf sheet j line line' size k
+        → Reported I j states sets rows line k states' sets' rows' line' → PrintedOf sheet j line line' k
     unfolding line_in score_in
-    printable_line I same states sets rows line size k states' sets' rows' line' reported =
+    printable_line I same states sets rows line k states' sets' rows' line' reported =
         record {
           printed = λ other is. let eq : has ≡ other = sound_same (sym ready.read.is ∙ is) in
-              let told = subst (λ X. Reported X j states sets rows line size k states' sets' rows' line') same
-              reported in
-              subst (λ h. Printed sheet h j line line' size k) eq (record { text = told.text; score = told.score });
+              let told = subst (λ X. Reported X j states sets rows line k states' sets' rows' line') same reported in
+              subst (λ h. Printed sheet h j line line' k) eq (record { text = told.text; score = told.score });
         }

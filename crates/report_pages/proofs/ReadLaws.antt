@@ -1,23 +1,22 @@
 -- A sheet that the reader has left in the lists may be printed.
 -- Assumes nothing.
 use mathlib.Core.List.{List}
-use mathlib.Core.Path.{◌≡◌, ap, ap₂, sym, ◌∙◌, subst}
+use mathlib.Core.Path.{◌≡◌, refl, ap, ap₂, sym, ◌∙◌, subst}
 use Prim.Native.Nat.{ℕ, ◌+◌, ◌*◌, ◌/◌, ◌%◌, ◌<◌, ◌≤◌}
 use native.Mathlib.Omega.{arith}
 use lib.ListN.{length, get_or, take, drop}
 use lib.Seq.{sets, sets-eq, length-sets, take-append_seam, ext_get_or}
+use Rattle.std.proofs.Common.{Result, Ok, Err}
 use Rattle.sheet_costs.specs.CostRules.{TableRules, Flat}
 use Rattle.sheet_lines.specs.declared.Fault.{Fault}
 use Rattle.sheet_tips.specs.Nodes.{lefts, rights}
 use Rattle.sheet_tree.proofs.PairSteps.{lefts_long, rights_long}
 use Rattle.report_pages.specs.Page.{PrintableFrom}
-use Rattle.report_pages.specs.SheetLine.{IsRead, Printable}
+use Rattle.report_pages.specs.SheetLine.{IsRead, Printable, ReadAs}
 use Rattle.sheet_sections.proofs.SheetLaws.{sheet_read}
 use Rattle.sheet.specs.Gives.{HoldsContents, GivesSheetFor, GivesSheet}
-use Rattle.sheet.specs.Judge.{faulty, judge}
+use Rattle.sheet.specs.Judge.{Contents, Judged, sound, faulty, judge}
 use Rattle.sheet.specs.Table.{flat}
-use Rattle.sheet.specs.declared.Read.{Read}
-use Rattle.sheet.specs.declared.Read.TheVariants.{Sound, Faulty}
 use Rattle.sheet.specs.declared.Sheet.{Sheet}
 use Rattle.sheet.proofs.SoundSheet.{sound_from}
 use Rattle.sheet.proofs.TableRules.{flat_is, sheet_legal}
@@ -44,8 +43,51 @@ pub first_put : (n : ℕ) (l l' vs : List ℕ) → n ≡ length vs → l' ≡ se
 first_put n l l' vs e is fits =
     ap₂ take e (is ∙ sets-eq vs l 0 (omega arith)) ∙ take-append_seam vs (drop (0 + length vs) l)
 
-module _ (sheet : List ℕ) (s : Sheet) (answer : Read) (table' : List (List ℕ)) (left right left' right' : List ℕ)
-    (gives : GivesSheet (judge sheet) answer table' left right left' right') (is : answer ≡ Sound s) where
+-- a sheet that has been read, as a value of its type says it
+module _ (sheet : List ℕ) (s : Sheet) (costs left right : List ℕ) where
+  read_as : (has : Contents) → IsRead sheet s costs left right has → ReadAs (judge sheet) s costs left right
+  read_as has read =
+      subst (λ j. ReadAs j s costs left right) (sym read.is)
+      (read.tips, read.columns, read.cells, read.nodes, read.priced, read.lefts, read.rights)
+
+  as_read : ReadAs (judge sheet) s costs left right → (has : Contents) × IsRead sheet s costs left right has
+  as_read = by_judged (judge sheet) refl
+    where
+      by_judged : (j : Judged) → judge sheet ≡ j → ReadAs j s costs left right
+          → (has : Contents) × IsRead sheet s costs left right has
+      by_judged (sound has) is (tips, columns, cells, nodes, priced, lefts, rights) = (
+        has,
+        record {
+          is = is;
+          tips = tips;
+          columns = columns;
+          cells = cells;
+          nodes = nodes;
+          priced = priced;
+          lefts = lefts;
+          rights = rights;
+        },
+      )
+      by_judged (faulty f) is none = absurd none
+
+  -- each of its columns may be printed
+  pub as_printable : ReadAs (judge sheet) s costs left right → {j : ℕ} → j < s.columns
+      → Printable sheet s costs left right j
+  as_printable read low =
+      let (has, told) = as_read read in
+      let columns = told.columns in
+      record { has = has; read = told; inside = omega arith }
+
+  -- and it may be printed from each of its columns on
+  pub as_printable_from : ReadAs (judge sheet) s costs left right → {first : ℕ} → first ≤ s.columns
+      → PrintableFrom sheet s costs left right first
+  as_printable_from read low =
+      let (has, told) = as_read read in
+      let columns = told.columns in
+      record { has = has; read = told; low = omega arith }
+
+module _ (sheet : List ℕ) (s : Sheet) (answer : Result Sheet Fault) (table' : List (List ℕ)) (left right left' right' : List ℕ)
+    (gives : GivesSheet (judge sheet) answer table' left right left' right') (is : answer ≡ Ok s) where
   pub read_sound : HoldsContents (judge sheet) s table' left right left' right'
   read_sound = subst (λ a. GivesSheetFor (judge sheet) a table' left right left' right') is gives.gives
 
@@ -83,22 +125,14 @@ module _ (sheet : List ℕ) (s : Sheet) (answer : Read) (table' : List (List ℕ
             (omega arith);
       }
 
-  -- so it may be printed from its first column on
-  pub read_from : (costs : List ℕ) → length left ≡ 1023 → length right ≡ 1023 → Flat table' costs
-      → PrintableFrom sheet s costs left' right' 0
-  read_from costs ll lr flatly =
-      record { has = read_sound.contents; read = read_is costs ll lr flatly; low = omega arith }
-
-  -- and so may each of its columns
-  pub read_printable : (costs : List ℕ) (j : ℕ) → length left ≡ 1023 → length right ≡ 1023 → Flat table' costs
-      → j < s.columns → Printable sheet s costs left' right' j
-  read_printable costs j ll lr flatly low =
-      let c = read_sound.columns in
-      record { has = read_sound.contents; read = read_is costs ll lr flatly; inside = omega arith }
+  -- as a value of its type says it
+  pub read_told : (costs : List ℕ) → length left ≡ 1023 → length right ≡ 1023 → Flat table' costs
+      → ReadAs (judge sheet) s costs left' right'
+  read_told costs ll lr flatly = read_as sheet s costs left' right' read_sound.contents (read_is costs ll lr flatly)
 
 -- the fault that the reader answers with
-pub read_fault : (sheet : List ℕ) (f : Fault) (answer : Read) (table' : List (List ℕ))
+pub read_fault : (sheet : List ℕ) (f : Fault) (answer : Result Sheet Fault) (table' : List (List ℕ))
     (left right left' right' : List ℕ)
-    → GivesSheet (judge sheet) answer table' left right left' right' → answer ≡ Faulty f → judge sheet ≡ faulty f
+    → GivesSheet (judge sheet) answer table' left right left' right' → answer ≡ Err f → judge sheet ≡ faulty f
 read_fault sheet f answer table' left right left' right' gives is =
     subst (λ a. GivesSheetFor (judge sheet) a table' left right left' right') is gives.gives

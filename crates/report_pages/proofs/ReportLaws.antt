@@ -5,8 +5,6 @@ use mathlib.Core.Path.{◌≡◌, refl, ap, ap₂, sym, ◌∙◌}
 use Prim.Native.Nat.{ℕ, zero, suc, ◌+◌}
 use native.Mathlib.Nat.{add_assoc, add-suc, add-zero, zero-add}
 use native.Mathlib.Omega.{arith}
-use lib.ListN.{length, take}
-use lib.Seq.{length-sets}
 use Rattle.sheet_lines.specs.Fault.{fault_number, fault_line}
 use Rattle.sheet_lines.specs.declared.Fault.{Fault}
 use Rattle.parsimony.specs.Sum.{sum}
@@ -15,7 +13,6 @@ use Rattle.report_pages.specs.Report.{report_in, report_of, Page, PagesFrom, pri
 use Rattle.report_pages.specs.SheetLine.{score_in, on_judged}
 use Rattle.report_lines.specs.Frame.{columns_line, total_line, refused_line}
 use Rattle.sheet.specs.Judge.{Contents, sound, faulty, judge}
-use Rattle.report_pages.proofs.ReadLaws.{first_put}
 
 module _ (sheet : List ℕ) (has : Contents) where
   -- the lines of some columns and of those after them are the lines of all
@@ -54,14 +51,9 @@ module _ (sheet : List ℕ) (has : Contents) where
     unfolding printed lines_in scores_in sum
     pages_lines [] first total next all (here, same) =
         (0, here ∙ sym (add-zero first), refl, same ∙ sym (add-zero total))
-    pages_lines (p ∷ ps) first total next all (page, fits, more) =
-        let one : Lines sheet has first total p.before p.next p.size p.total p.after = page.lines has
-        is in
+    pages_lines (p ∷ ps) first total next all (page, more) =
+        let one : Lines sheet has first total p.next p.total p.text = page.lines has is in
         let (m, after, text, added) = pages_lines ps p.next p.total next all more in
-        let size = one.put.end in
-        let long = ap length one.put.written ∙ length-sets p.before 0 (lines_in sheet has first one.k) in
-        let here : take p.size p.after ≡ lines_in sheet has first one.k =
-        first_put p.size p.before p.after _ (omega arith) one.put.written (omega arith) in
         let from = one.after in
         let sums = one.added in
         let join = scores_join first one.k m in
@@ -69,7 +61,7 @@ module _ (sheet : List ℕ) (has : Contents) where
         ap (λ j. scores_in sheet has j m) from in (
           one.k + m,
           omega arith,
-          ap₂ (λ l r. l ++ r) here (text ∙ ap (λ j. lines_in sheet has j m) from) ∙ lines_join first one.k m,
+          ap₂ (λ l r. l ++ r) one.text (text ∙ ap (λ j. lines_in sheet has j m) from) ∙ lines_join first one.k m,
           omega arith,
         )
 

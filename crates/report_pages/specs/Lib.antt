@@ -1,5 +1,6 @@
 -- The lines that a sheet's columns are printed as.
 -- Assumes nothing.
 pub mod SheetLine
+pub mod ReadOnce
 pub mod Page
 pub mod Report

@@ -1,6 +1,6 @@
 -- The report of a sheet, whole, and the pages that it is printed on.
 -- Assumes nothing.
-use Rattle.std.specs.Prelude.{List, [], ◌∷◌, ◌++◌, ◌≡◌, ℕ, ◌≤◌, length, take}
+use Rattle.std.specs.Prelude.{List, [], ◌∷◌, ◌++◌, ◌≡◌, ℕ}
 use Rattle.sheet_lines.specs.Fault.{fault_number, fault_line}
 use Rattle.report_pages.specs.Page.{lines_in, scores_in, PageOf}
 use Rattle.report_pages.specs.SheetLine.{on_judged}
@@ -20,13 +20,10 @@ unfoldable pub report_of : List ℕ → List ℕ
 unfolding on_judged report_in refused_line
 report_of sheet = on_judged (judge sheet) (λ f. refused_line (fault_number f) (fault_line f)) (report_in sheet)
 
--- a page as it was printed: before and after are its bytes, size is how many of them were printed; next is the column
--- to go on from, and total the scores up to there
+-- a page as it was printed: its bytes, the column to go on from, and the scores up to there
 pub record Page : Type 0 where
-  pub before : List ℕ
-  pub after : List ℕ
+  pub text : List ℕ
   pub next : ℕ
-  pub size : ℕ
   pub total : ℕ
 
 -- the pages are printed one after the other, each from where the one before it ended, from column first with the scores
@@ -34,11 +31,9 @@ pub record Page : Type 0 where
 abbrev pub PagesFrom : List Page → List ℕ → ℕ → ℕ → ℕ → ℕ → Type 0
 PagesFrom [] sheet first total next all = (next ≡ first) × (all ≡ total)
 PagesFrom (p ∷ ps) sheet first total next all =
-    PageOf sheet first total p.before p.next p.size p.total p.after
-    × (p.size ≤ length p.after)
-    × PagesFrom ps sheet p.next p.total next all
+    PageOf sheet first total p.next p.total p.text × PagesFrom ps sheet p.next p.total next all
 
 -- what the pages have, one after the other
 unfoldable pub printed : List Page → List ℕ
 printed [] = []
-printed (p ∷ ps) = take p.size p.after ++ printed ps
+printed (p ∷ ps) = p.text ++ printed ps

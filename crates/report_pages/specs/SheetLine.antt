@@ -1,13 +1,12 @@
 -- The line of a column of a sheet.
 -- Assumes nothing.
-use Rattle.std.specs.Prelude.{List, ◌≡◌, ℕ, ◌<◌, ◌≤◌, length, take}
+use Rattle.std.specs.Prelude.{List, ◌++◌, ◌≡◌, ℕ, ◌<◌, take}
 use Rattle.parsimony.specs.Row.{score}
 use Rattle.promises.specs.Input.{column}
 use Rattle.sheet_lines.specs.declared.Fault.{Fault}
 use Rattle.sheet_tips.specs.Nodes.{lefts, rights}
 use Rattle.sheet_tips.specs.Vine.{vine_nodes}
 use Rattle.report_lines.specs.Line.{column_line}
-use Rattle.report_lines.specs.Reports.{StartsWith}
 use Rattle.sheet.specs.Judge.{Contents, Judged, sound, faulty, judge}
 use Rattle.sheet.specs.Table.{flat, table_of}
 use Rattle.sheet.specs.declared.Sheet.{Sheet}
@@ -38,9 +37,21 @@ pub record IsRead (sheet : List ℕ) (s : Sheet) (costs left right : List ℕ) (
   pub lefts : take s.nodes left ≡ lefts has.vine 0
   pub rights : take s.nodes right ≡ rights has.vine 0
 
--- the line of column j is printed, so many bytes long, and k is its score
-pub record Printed (sheet : List ℕ) (has : Contents) (j : ℕ) (line line' : List ℕ) (size k : ℕ) : Type 0 where
-  pub text : StartsWith (line_in sheet has j) line line' size
+-- what a sheet comes to is these numbers, costs and tree
+abbrev pub ReadAs : Judged → Sheet → List ℕ → List ℕ → List ℕ → Type 0
+ReadAs (sound has) s costs left right =
+    (s.tips ≡ has.tips)
+    × (s.columns ≡ has.columns)
+    × (s.cells ≡ has.cells)
+    × (s.nodes ≡ vine_nodes has.vine)
+    × (costs ≡ flat has.costs)
+    × (take s.nodes left ≡ lefts has.vine 0)
+    × (take s.nodes right ≡ rights has.vine 0)
+ReadAs (faulty f) s costs left right = ⊥
+
+-- the line of column j is added, and k is its score
+pub record Printed (sheet : List ℕ) (has : Contents) (j : ℕ) (line line' : List ℕ) (k : ℕ) : Type 0 where
+  pub text : line' ≡ line ++ line_in sheet has j
   pub score : k ≡ score_in sheet has j
 
 -- column j of a sheet that has been read may be printed
@@ -49,16 +60,6 @@ pub record Printable (sheet : List ℕ) (s : Sheet) (costs left right : List ℕ
   pub read : IsRead sheet s costs left right has
   pub inside : j < has.columns
 
--- room for the work on a column and for its line
-pub record Room (left right cells states sets rows line : List ℕ) : Type 0 where
-  pub left_long : length left ≡ 1023
-  pub right_long : length right ≡ 1023
-  pub cells_long : length cells ≡ 512
-  pub states_room : 1023 ≤ length states
-  pub sets_room : 1023 ≤ length sets
-  pub rows_room : 4092 ≤ length rows
-  pub line_room : 1056 ≤ length line
-
--- the line of column j of the sheet is printed, whatever the sheet holds
-pub record PrintedOf (sheet : List ℕ) (j : ℕ) (line line' : List ℕ) (size k : ℕ) : Type 0 where
-  pub printed : (has : Contents) → judge sheet ≡ sound has → Printed sheet has j line line' size k
+-- the line of column j of the sheet is added, whatever the sheet holds
+pub record PrintedOf (sheet : List ℕ) (j : ℕ) (line line' : List ℕ) (k : ℕ) : Type 0 where
+  pub printed : (has : Contents) → judge sheet ≡ sound has → Printed sheet has j line line' k

@@ -65,7 +65,8 @@ pub decimal_value_lem : (n : ℕ) → decimal_value (decimal n) ≡ n
 unfolding decimal_value
 decimal_value_lem =
     by_digits (λ n digits. value_from 0 digits ≡ n) one
-    (λ n large same. value_snoc 0 (48 + n % 10) (decimal (n / 10)) ∙ last n large (value_from 0 (decimal (n / 10))) same)
+    (λ n large same. value_snoc 0 (48 + n % 10) (decimal (n / 10))
+    ∙ last n large (value_from 0 (decimal (n / 10))) same)
   where
     one : (n : ℕ) → n < 10 → value_from 0 ((48 + n) ∷ []) ≡ n
     one n small = value_snoc 0 (48 + n) [] ∙ omega arith

@@ -1,4 +1,4 @@
--- Texts into a line of bytes: decimal digits, and what is put at a place.
+-- Texts put together: decimal digits, and what a function makes of each byte.
 -- Assumes nothing.
 pub mod Decimal
-pub mod Put
+pub mod Mapped

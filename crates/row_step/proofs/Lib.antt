@@ -1,5 +1,5 @@
--- Laws of rows, and of the loops that fill them.
+-- Laws of the steps on rows.
 -- Assumes nothing.
-pub mod LeastSteps
 pub mod LaneLaws
 pub mod CellLaws
+pub mod LeastSteps

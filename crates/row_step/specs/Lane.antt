@@ -1,38 +1,30 @@
--- A lane: s costs side by side with s entries of a child's row, as the steps read them from any rows lent to them.
+-- The steps on a child's row, as they read it: a cost beside each entry.
 -- Assumes nothing.
-use Rattle.std.specs.Prelude.{List, ◌⊎◌, ◌≡◌, ℕ, ◌+◌, ◌*◌, ◌<◌, ◌≤◌, length, get_or}
+use Rattle.std.specs.Prelude.{List, ◌≡◌, ℕ, ◌<◌, ◌≤◌, length, get_or}
 use Rattle.parsimony.specs.Barred.{barred, plus}
 use Rattle.parsimony.specs.Least.{least}
 
 -- n is at most k or barred
 abbrev pub Within : ℕ → ℕ → Type 0
-Within k n = (n ≤ k) ⊎ (n ≡ barred)
+Within k n = (n ≡ barred → ⊥) → n ≤ k
 
--- the entry of a row that starts at a place of the list rows
-abbrev pub entry_at : List ℕ → ℕ → ℕ → ℕ
-entry_at rows at y = get_or rows (at + y) 0
+-- a child in state y: the cost of the change and the child's entry
+abbrev pub lane : (ℕ → ℕ) → (ℕ → ℕ) → ℕ → ℕ
+lane cost entry y = plus (cost y) (entry y)
 
--- a child in state y: the cost at place from + y and the child's entry at place at + y
-unfoldable pub lane : List ℕ → ℕ → List ℕ → ℕ → ℕ → ℕ
-unfolding plus
-lane costs from rows at y = plus (get_or costs (from + y) 0) (get_or rows (at + y) 0)
+-- each entry of the row is barred or below 2^30, so that no sum wraps
+pub record Calm (row : List ℕ) : Type 0 where
+  pub calm : (y : ℕ) → y < length row → Within 1073741823 (get_or row y 0)
 
--- the child's row lies in the list of rows, and each of its entries is barred or below 2^30, so that no sum wraps
-pub record Calm (rows : List ℕ) (at s : ℕ) : Type 0 where
-  pub inside : at + s ≤ length rows
-  pub calm : (y : ℕ) → y < s → Within 1073741823 (get_or rows (at + y) 0)
+-- s costs, each at most 999
+pub record Cheap (costs : List ℕ) (s : ℕ) : Type 0 where
+  pub count : length costs ≡ s
+  pub cheap : (y : ℕ) → y < s → get_or costs y 0 ≤ 999
 
--- s costs from a place of the cost list on lie in it, and each is at most 999
-pub record Cheap (costs : List ℕ) (from s : ℕ) : Type 0 where
-  pub inside : from + s ≤ length costs
-  pub cheap : (y : ℕ) → y < s → get_or costs (from + y) 0 ≤ 999
+-- an inner node's entry for its state x, from its children's rows a and b of s entries
+abbrev pub join : (ℕ → ℕ → ℕ) → ℕ → (ℕ → ℕ) → (ℕ → ℕ) → ℕ → ℕ
+join cost s a b x = plus (least (lane (cost x) a) s) (least (lane (cost x) b) s)
 
--- the costs are an s by s table, each at most 999
-pub record CheapTable (costs : List ℕ) (s : ℕ) : Type 0 where
-  pub count : length costs ≡ s * s
-  pub each : (i : ℕ) → i < s * s → get_or costs i 0 ≤ 999
-
--- an inner node's entry for its state x, from its children's rows at places a and b
-unfoldable pub join_at : List ℕ → ℕ → List ℕ → ℕ → ℕ → ℕ → ℕ
-unfolding lane least plus
-join_at costs s rows a b x = plus (least (lane costs (x * s) rows a) s) (least (lane costs (x * s) rows b) s)
+-- each entry of the row is f of its place
+abbrev pub RowIs : (ℕ → ℕ) → List ℕ → Type 0
+RowIs f row = (x : ℕ) → x < length row → get_or row x 0 ≡ f x

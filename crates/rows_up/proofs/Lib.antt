@@ -1,5 +1,4 @@
--- Laws of the rows of one column: places, the row room and the rows of a table's nodes.
+-- Laws of the rows of one column: the row room, and the rows of a table's nodes.
 -- Assumes nothing.
-pub mod PlaceLaws
 pub mod RoomLaws
 pub mod RowSteps

@@ -3,66 +3,56 @@
 
 ghost use Rattle.std.specs.Prelude.{◌≡◌, ◌*◌, ◌<◌, ◌≤◌, length};
 ghost use Rattle.parsimony.specs.Row.{row};
-ghost use Rattle.parsimony.specs.Table.{Kind};
-ghost use Rattle.parsimony.specs.Written.{entries, Wrote};
-ghost use Rattle.promises.specs.CallRules.{Allowed};
-ghost use Rattle.promises.specs.Input.{asked, entered, tips_in, column};
+ghost use Rattle.parsimony.specs.Written.{entries};
+ghost use Rattle.promises.specs.Input.{input_of, nodes, column};
 ghost use Rattle.promises.specs.RowRoom.{HoldsRows, Worked};
+ghost use Rattle.row_step.specs.Lane.{RowIs};
 
-use parsimony::Cell;
-use row_step::{cell_row, copy_row, inner_row};
-use tree_nodes::nodes::{Node, node_at};
+use column_nodes::{ColumnNode, column_node};
+use promises::Sound;
+use row_step::{Rows, cell_row, costs_of, inner_row, row_at};
 
-// Node v's row in column j, where h is the number of handed tips, and the rows of the nodes below v stand in the room.
-fn node_row(
-    left: &[u16],
-    right: &[u16],
-    s: usize,
-    costs: &[u16],
-    c: usize,
-    cells: &[Cell],
-    h: usize,
-    handed: &[u32],
-    j: usize,
-    v: usize,
-    rows: &mut [u32],
-)
-    requires allowed { Allowed (asked left right s costs c cells handed) }
-    requires j_lt_c { (j < c) × (h ≡ tips_in Kind.handed (asked left right s costs c cells handed)) }
-    requires v_in_bounds { (v < length left.now) × (length left.now * s ≤ length rows.old) }
-    requires holds_rows { HoldsRows (row (column (asked left right s costs c cells handed) j)) v s (entries rows.old) }
-    ensures { Wrote (v * s) s (row (column (entered left right s costs c cells handed) j) v)
-        rows.old rows.new }
+// Node v's row in column j, from the rows of the nodes below v.
+fn node_row(sound: &Sound, j: usize, v: usize, below: &[u32], own: &mut [u32])
+    requires node { (j < sound.now.table.c) × (v < nodes (input_of sound.now.table)) }
+    requires room { (length below.now ≡ v * sound.now.table.s) × (length own.old ≡ sound.now.table.s) }
+    requires holds_rows { HoldsRows (row (column (input_of sound.now.table) j)) v sound.now.table.s (entries below.now) }
+    ensures { RowIs (row (column (input_of sound.now.table) j) v) own.new }
 {
-    let at = v * s;
-    match node_at(left, right, v) {
-        Node::Symbol(r) => cell_row(cells[r * c + j], rows, at, s),
-        Node::Handed(k) => copy_row(handed, (j * h + k) * s, rows, at, s),
-        Node::Inner(a, b) => inner_row(costs, rows, a * s, b * s, at, s),
+    let s = sound.table.s;
+    match column_node(sound, j, v) {
+        ColumnNode::Symbol(cell) => cell_row(cell, own),
+        ColumnNode::Handed(handed) => own.copy_from_slice(handed),
+        ColumnNode::Inner(a, b) => {
+            let costs = costs_of(&sound.table);
+            inner_row(&costs, row_at(below, s, a), row_at(below, s, b), own)
+        }
     }
 }
 
-// Each node's row in column j, node by node, where h is the number of handed tips.
-pub fn fill_rows(
-    left: &[u16],
-    right: &[u16],
-    s: usize,
-    costs: &[u16],
-    c: usize,
-    cells: &[Cell],
-    h: usize,
-    handed: &[u32],
-    j: usize,
-    rows: &mut [u32],
-)
-    requires allowed { Allowed (asked left right s costs c cells handed) }
-    requires j_lt_c { (j < c) × (h ≡ tips_in Kind.handed (asked left right s costs c cells handed)) }
-    requires s_in_bounds { length left.now * s ≤ length rows.old }
-    ensures { Worked (entered left right s costs c cells handed) j rows.old rows.new }
+// Each node's row in column j, node by node.
+pub fn fill_rows(sound: &Sound, j: usize, rows: &mut [u32])
+    requires inside { j < sound.now.table.c }
+    requires room { nodes (input_of sound.now.table) * sound.now.table.s ≤ length rows.old }
+    ensures { Worked (input_of sound.now.table) j rows.old rows.new }
 {
-    let mut v: usize = 0;
-    while v < left.len() {
-        node_row(left, right, s, costs, c, cells, h, handed, j, v, rows);
-        v += 1;
+    let s = sound.table.s;
+    for v in 0..sound.table.left.len() {
+        let (below, rest) = rows.split_at_mut(v * s);
+        node_row(sound, j, v, below, &mut rest[..s]);
+    }
+}
+
+// The rows of column j, where they stand in the room.
+pub fn rows_in<'t, 'r>(sound: &Sound<'t>, j: usize, rows: &'r [u32]) -> Rows<'t, 'r>
+    requires inside { j < sound.now.table.c }
+    requires room { nodes (input_of sound.now.table) * sound.now.table.s ≤ length rows.now }
+    requires holds_rows { HoldsRows (row (column (input_of sound.now.table) j)) (nodes (input_of sound.now.table))
+        sound.now.table.s (entries rows.now) }
+    ensures { (result.table ≡ sound.now.table) × (result.entries.now ≡ rows.now) }
+{
+    Rows {
+        table: sound.table,
+        entries: rows,
     }
 }

@@ -3,14 +3,12 @@
 
 mod counting;
 mod handing_up;
-mod labelling;
+mod marking;
 mod scoring;
-mod set_call;
 mod whole_work;
 
 pub use counting::count;
 pub use handing_up::hand_up;
-pub use labelling::label;
+pub use marking::{label, sets};
 pub use scoring::score;
-pub use set_call::sets;
 pub use whole_work::work_column;

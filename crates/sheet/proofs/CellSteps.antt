@@ -2,34 +2,29 @@
 -- Assumes nothing.
 use mathlib.Core.List.{List}
 use mathlib.Core.Path.{◌≡◌, refl, ap, sym, ◌∙◌}
-use Prim.Native.Nat.{ℕ, zero, suc, ◌+◌, ◌<◌, ◌≤◌}
+use Prim.Native.Nat.{ℕ, zero, suc, ◌+◌, ◌<◌}
 use native.Mathlib.Nat.{not-suc-le-zero}
 use native.Mathlib.Omega.{arith}
 use lib.ListN.{length, get_or, set, length-set}
 use lib.Seq.{get_or-set_same, get_or-set_other}
+use Rattle.std.proofs.Common.{Some, unwrap_or}
 use Rattle.parsimony.proofs.Order.{by_eq}
 use Rattle.sheet_cells.specs.IsRow.{row_at}
 use Rattle.sheet.specs.Cells.{Filled}
 use Rattle.sheet_symbols.specs.Code.{symbol_set}
 use Rattle.sheet_symbols.specs.Symbol.{answer, symbol_of}
-use Rattle.sheet_symbols.specs.declared.Symbol.TheVariants.{States, Unlisted}
 
--- the set of a byte that is listed, and of one that is not
-pub set_listed : (byte set : ℕ) → symbol_of byte ≡ States set → symbol_set byte ≡ set
+-- the set of a byte is what it stands for, or empty where it is not listed
+pub set_of_symbol : (byte : ℕ) → unwrap_or (symbol_of byte) 0 ≡ symbol_set byte
 unfolding symbol_of answer
-set_listed byte set h = go (symbol_set byte) h
+set_of_symbol byte = go (symbol_set byte)
   where
-    go : (c : ℕ) → answer c ≡ States set → c ≡ set
-    go zero g = absurd (let z : ◌≡◌ {A = ℕ} 0 1 = cc in omega arith)
-    go (suc c) g = cc
+    go : (set : ℕ) → unwrap_or (answer set) 0 ≡ set
+    go zero = refl
+    go (suc set) = refl
 
-pub set_unlisted : (byte : ℕ) → symbol_of byte ≡ Unlisted → symbol_set byte ≡ 0
-unfolding symbol_of answer
-set_unlisted byte h = go (symbol_set byte) h
-  where
-    go : (c : ℕ) → answer c ≡ Unlisted → c ≡ 0
-    go zero g = refl
-    go (suc c) g = absurd (let z : ◌≡◌ {A = ℕ} 0 1 = cc in omega arith)
+pub set_listed : (byte set : ℕ) → symbol_of byte ≡ Some set → symbol_set byte ≡ set
+set_listed byte set e = sym (set_of_symbol byte) ∙ ap (λ answer. unwrap_or answer 0) e
 
 pub filled_none : (sheet : List ℕ) (c at j : ℕ) (cells : List ℕ) → length cells ≡ 512 → Filled sheet c at j 0 cells
 filled_none sheet c at j cells long = record { long = long; cell = λ r h. absurd (not-suc-le-zero h) }
@@ -46,7 +41,3 @@ filled_more sheet c at j n cells v low is filled =
           ∙ ap (λ k. symbol_set (get_or sheet (row_at at c k + j) 0)) (sym e))
           (λ ne. get_or-set_other cells n r v 0 ne ∙ filled.cell r (omega arith));
     }
-
-pub filled_few : (sheet : List ℕ) (c at j m n : ℕ) (cells : List ℕ) → m ≤ n → Filled sheet c at j n cells
-    → Filled sheet c at j m cells
-filled_few sheet c at j m n cells h filled = record { long = filled.long; cell = λ r k. filled.cell r (omega arith) }

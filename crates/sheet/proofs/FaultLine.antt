@@ -7,20 +7,17 @@ use Prim.Native.Nat.{ℕ, ◌+◌, ◌≤◌}
 use native.Mathlib.Omega.{arith}
 use lib.Dec.{eqb, ltb}
 use lib.ListN.{length}
+use Rattle.std.proofs.Common.{Option, Some, None, Result, Ok, Err}
 use Rattle.parsimony.specs.Test.{pick}
 use Rattle.sheet_lines.specs.Count.{on_place}
 use Rattle.sheet_lines.specs.Fault.{fault_line}
 use Rattle.sheet_lines.specs.Line.{line_end}
 use Rattle.sheet_lines.specs.declared.Fault.{Fault}
 use Rattle.sheet_lines.specs.declared.Fault.TheVariants.{Sheet, TreeText}
-use Rattle.sheet_lines.specs.declared.Place.{Place}
-use Rattle.sheet_lines.specs.declared.Place.TheVariants.{At, Nowhere}
 use Rattle.sheet_tips.specs.Tip.{Parsed, got, no_tree}
 use Rattle.sheet_tips.specs.Vine.{Vine}
 use Rattle.sheet_tree.specs.Parse.{line_tree}
 use Rattle.sheet_sections.specs.Sheet.{sheet_of}
-use Rattle.sheet_sections.specs.declared.Reading.{Reading}
-use Rattle.sheet_sections.specs.declared.Reading.TheVariants.{Sound, Faulty}
 use Rattle.sheet_sections.specs.declared.Sections.{Sections}
 use Rattle.sheet_sections.proofs.FaultLines.{fault_line_lem}
 use Rattle.sheet_sections.proofs.SheetLaws.{sheet_read}
@@ -54,10 +51,10 @@ module _ (sheet names : List ℕ) (costs : List (List ℕ)) (s : Sections) (line
           (faulty (Sheet (s.line + 1))) tt (omega arith)
       by_tree end no_tree = omega arith
 
-      by_place : (p : Place) → Low (on_place p (faulty (Sheet s.line))
+      by_place : (p : Option ℕ) → Low (on_place p (faulty (Sheet s.line))
           (λ end. on_tree (line_tree sheet names s.tips s.tree end) (faulty (TreeText s.line)) (after end)))
-      by_place (At end) = by_tree end (line_tree sheet names s.tips s.tree end)
-      by_place Nowhere = omega arith
+      by_place (Some end) = by_tree end (line_tree sheet names s.tips s.tree end)
+      by_place None = omega arith
 
 -- Every fault of a sheet is on a line up to 1,034.
 pub judge_line : (sheet : List ℕ) (f : Fault) → judge sheet ≡ faulty f → fault_line f ≤ 1034
@@ -70,10 +67,10 @@ judge_line sheet f h =
     rest : Sections → Judged
     rest = tree_line sheet (sheet_of sheet).names (sheet_of sheet).rest.costs
 
-    by_reading : (r : Reading) → (sheet_of sheet).rest.reading ≡ r → Low (on_reading r rest)
-    by_reading (Sound s) e =
+    by_reading : (r : Result Sections Fault) → (sheet_of sheet).rest.reading ≡ r → Low (on_reading r rest)
+    by_reading (Ok s) e =
         let read = sheet_read sheet s e in
         let number = read.rest.line in
         let few = read.few in
         tree_low sheet (sheet_of sheet).names (sheet_of sheet).rest.costs s (omega arith)
-    by_reading (Faulty g) e = let low = fault_line_lem sheet g e in omega arith
+    by_reading (Err g) e = let low = fault_line_lem sheet g e in omega arith

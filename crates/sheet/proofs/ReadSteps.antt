@@ -8,6 +8,7 @@ use borrow.Author.Tests.{eq-eqb, ne_eqb, lt-ltb, le-ltb}
 use lib.Dec.{eqb}
 use lib.ListN.{length, drop, take, drop_of_length-le}
 use lib.Seq.{take-append_seam}
+use Rattle.std.proofs.Common.{Option, Some, None, Result, Ok, Err}
 use Rattle.parsimony.specs.Test.{pick}
 use Rattle.parsimony.proofs.Order.{pick_true, pick_false}
 use Rattle.sheet_lines.specs.Count.{on_place}
@@ -15,31 +16,33 @@ use Rattle.sheet_lines.specs.Line.{line_end}
 use Rattle.sheet_lines.specs.Section.{wrote}
 use Rattle.sheet_lines.specs.declared.Fault.{Fault}
 use Rattle.sheet_lines.specs.declared.Fault.TheVariants.{Sheet, TreeText}
-use Rattle.sheet_lines.specs.declared.Place.TheVariants.{At, Nowhere}
 use Rattle.sheet_tips.specs.Tip.{Parsed, no_tree}
 use Rattle.sheet_tips.specs.Vine.{Vine}
-use Rattle.sheet_tips.specs.declared.Subtree.{Subtree}
-use Rattle.sheet_tips.specs.declared.Subtree.TheVariants.{Tree, NoTree}
 use Rattle.sheet_tree.specs.Parse.{line_tree}
 use Rattle.sheet_tree.specs.Reading.{GotLine, GivesLineFor, GivesLine}
 use Rattle.sheet_sections.specs.Sheet.{GivesSections, sheet_of}
-use Rattle.sheet_sections.specs.declared.Reading.{Reading}
-use Rattle.sheet_sections.specs.declared.Reading.TheVariants.{Sound, Faulty}
 use Rattle.sheet_sections.specs.declared.Sections.{Sections}
 use Rattle.sheet_sections.proofs.SheetLaws.{sheet_read}
 use Rattle.sheet.specs.Gives.{GivesSheet, GivesTree}
 use Rattle.sheet.specs.Judge.{Judged, sound, faulty, on_reading, on_tree, tree_line, judge}
-use Rattle.sheet.specs.declared.Read as Reads
-use Rattle.sheet.specs.declared.Read.TheVariants as Answer
+use Rattle.sheet.specs.declared.Sheet as Sheets
 
 -- an answer of the tree line's reader, by its case
-pub line_tree_lem : {p : Parsed} {left right : List ℕ} {answer : Subtree} {left' right' : List ℕ} (stop n : ℕ)
-    → GivesLine p left right answer left' right' → answer ≡ Tree stop n → GotLine p left right stop n left' right'
+pub line_tree_lem : {p : Parsed} {left right : List ℕ} {answer : Option (ℕ × ℕ)} {left' right' : List ℕ} (stop n : ℕ)
+    → GivesLine p left right answer left' right' → answer ≡ Some (stop, n) → GotLine p left right stop n left' right'
 line_tree_lem {p} {left} {right} {answer} {left'} {right'} stop n g e =
     subst (λ a. GivesLineFor p left right a left' right') e g.gives
 
-pub line_no_tree : {p : Parsed} {left right : List ℕ} {answer : Subtree} {left' right' : List ℕ}
-    → GivesLine p left right answer left' right' → answer ≡ NoTree → p ≡ no_tree
+-- the same of a tree line that has as many names as the sheet has tips
+pub line_of_tips : (sheet names : List ℕ) {t : ℕ} (at end : ℕ) {left right : List ℕ} {answer : Option (ℕ × ℕ)}
+    {left' right' : List ℕ} → length names ≡ t
+    → GivesLine (line_tree sheet names (length names) at end) left right answer left' right'
+    → GivesLine (line_tree sheet names t at end) left right answer left' right'
+line_of_tips sheet names {t} at end {left} {right} {answer} {left'} {right'} size g =
+    subst (λ k. GivesLine (line_tree sheet names k at end) left right answer left' right') size g
+
+pub line_no_tree : {p : Parsed} {left right : List ℕ} {answer : Option (ℕ × ℕ)} {left' right' : List ℕ}
+    → GivesLine p left right answer left' right' → answer ≡ None → p ≡ no_tree
 line_no_tree {p} {left} {right} {answer} {left'} {right'} g e =
     subst (λ a. GivesLineFor p left right a left' right') e g.gives
 
@@ -56,8 +59,8 @@ module _ (sheet names : List ℕ) (s : Sections) (left right left' right' : List
       on_tree (line_tree sheet names s.tips s.tree end) (faulty (TreeText s.line)) (after_tree costs end)
 
   -- no line: SHEET
-  pub no_line : line_end sheet s.tree ≡ Nowhere
-      → GivesTree sheet names s (Answer.Faulty (Sheet s.line)) left right left' right'
+  pub no_line : line_end sheet s.tree ≡ None
+      → GivesTree sheet names s (Err (Sheet s.line)) left right left' right'
   unfolding tree_line on_place
   no_line none =
       record {
@@ -66,14 +69,14 @@ module _ (sheet names : List ℕ) (s : Sections) (left right left' right' : List
         };
       }
 
-  module _ (end : ℕ) (line : line_end sheet s.tree ≡ At end) where
+  module _ (end : ℕ) (line : line_end sheet s.tree ≡ Some end) where
     to_line : (costs : List (List ℕ)) → tree_line sheet names costs s ≡ after_line costs end
     unfolding tree_line on_place
     to_line costs = ap (λ p. on_place p (faulty (Sheet s.line)) (after_line costs)) line
 
     -- no tree: TREE TEXT
     pub no_tree_lem : line_tree sheet names s.tips s.tree end ≡ no_tree
-        → GivesTree sheet names s (Answer.Faulty (TreeText s.line)) left right left' right'
+        → GivesTree sheet names s (Err (TreeText s.line)) left right left' right'
     unfolding on_tree
     no_tree_lem none =
         record {
@@ -91,7 +94,7 @@ module _ (sheet names : List ℕ) (s : Sections) (left right left' right' : List
 
       -- something after it: SHEET on the next line
       pub more_after : (end + 1 ≡ length sheet → ⊥)
-          → GivesTree sheet names s (Answer.Faulty (Sheet (s.line + 1))) left right left' right'
+          → GivesTree sheet names s (Err (Sheet (s.line + 1))) left right left' right'
       more_after ne =
           record {
             tree = λ costs. record {
@@ -102,7 +105,7 @@ module _ (sheet names : List ℕ) (s : Sections) (left right left' right' : List
       -- and nothing: the sheet is sound
       pub whole_line : end + 1 ≡ length sheet
           → GivesTree sheet names s
-          (Answer.Sound (record { tips = s.tips; columns = s.columns; cells = s.cells; nodes = n }))
+          (Ok (record { tips = s.tips; columns = s.columns; cells = s.cells; nodes = n }))
           left right left' right'
       whole_line last =
           record {
@@ -128,10 +131,10 @@ module _ (sheet names : List ℕ) (s : Sections) (left right left' right' : List
           }
 
 -- The sections' answer, and what it says.
-module _ (sheet : List ℕ) (answer : Reading) (names names₁ : List ℕ) (table table₁ : List (List ℕ))
+module _ (sheet : List ℕ) (answer : Result Sections Fault) (names names₁ : List ℕ) (table table₁ : List (List ℕ))
     (gives : GivesSections (sheet_of sheet) answer names names₁ table table₁) where
-  module _ (s : Sections) (is : answer ≡ Sound s) where
-    read : (sheet_of sheet).rest.reading ≡ Sound s
+  module _ (s : Sections) (is : answer ≡ Ok s) where
+    read : (sheet_of sheet).rest.reading ≡ Ok s
     read = sym gives.rest.said ∙ is
 
     -- at most 512 tips, and a line number that is small
@@ -165,7 +168,7 @@ module _ (sheet : List ℕ) (answer : Reading) (names names₁ : List ℕ) (tabl
 module _ (sheet : List ℕ) (left right left' right' : List ℕ) where
   -- a long sheet: SHEET, line 0
   pub sheet_long : (table' : List (List ℕ)) → 65536 < length sheet
-      → GivesSheet (judge sheet) (Answer.Faulty (Sheet 0)) table' left right left' right'
+      → GivesSheet (judge sheet) (Err (Sheet 0)) table' left right left' right'
   unfolding judge
   sheet_long table' long = record { gives = pick_true _ _ (lt-ltb 65536 (length sheet) long) }
 
@@ -176,9 +179,10 @@ module _ (sheet : List ℕ) (left right left' right' : List ℕ) where
     to_sections = pick_false _ _ (le-ltb 65536 (length sheet) short)
 
     -- a fault of the sections
-    pub sheet_faulty : (f : Fault) (answer : Reading) (names names₁ : List ℕ) (table table₁ : List (List ℕ))
-        → GivesSections (sheet_of sheet) answer names names₁ table table₁ → answer ≡ Faulty f
-        → GivesSheet (judge sheet) (Answer.Faulty f) table₁ left right left' right'
+    pub sheet_faulty : (f : Fault) (answer : Result Sections Fault) (names names₁ : List ℕ)
+        (table table₁ : List (List ℕ))
+        → GivesSections (sheet_of sheet) answer names names₁ table table₁ → answer ≡ Err f
+        → GivesSheet (judge sheet) (Err f) table₁ left right left' right'
     unfolding on_reading
     sheet_faulty f answer names names₁ table table₁ gives is =
         record {
@@ -188,9 +192,10 @@ module _ (sheet : List ℕ) (left right left' right' : List ℕ) where
         }
 
     -- and what the tree line gives after sound ones
-    pub sheet_tree : (s : Sections) (answer : Reading) (names names₁ places : List ℕ) (table table₁ : List (List ℕ))
-        (r : Reads.Read)
-        → GivesSections (sheet_of sheet) answer names names₁ table table₁ → answer ≡ Sound s → length table ≡ 4
+    pub sheet_tree : (s : Sections) (answer : Result Sections Fault) (names names₁ places : List ℕ)
+        (table table₁ : List (List ℕ))
+        (r : Result Sheets.Sheet Fault)
+        → GivesSections (sheet_of sheet) answer names names₁ table table₁ → answer ≡ Ok s → length table ≡ 4
         → places ≡ take s.tips names₁ → GivesTree sheet places s r left right left' right'
         → GivesSheet (judge sheet) r table₁ left right left' right'
     unfolding on_reading

@@ -8,21 +8,19 @@ use native.Mathlib.Omega.{arith}
 use borrow.Author.Tests.{eqb-true, ltb-false}
 use lib.Dec.{eqb, ltb}
 use lib.ListN.{length}
+use Rattle.std.proofs.Common.{Option, Some, None, Result, Ok, Err}
 use Rattle.parsimony.specs.Test.{pick}
 use Rattle.parsimony.proofs.Order.{pick_true, pick_false}
 use Rattle.sheet_lines.specs.Count.{on_place}
 use Rattle.sheet_lines.specs.Line.{line_end}
 use Rattle.sheet_lines.specs.declared.Fault.TheVariants.{Sheet, TreeText}
-use Rattle.sheet_lines.specs.declared.Place.{Place}
-use Rattle.sheet_lines.specs.declared.Place.TheVariants.{At, Nowhere}
 use Rattle.sheet_tips.specs.Tip.{Parsed, got, no_tree}
 use Rattle.sheet_tips.specs.Vine.{Vine}
 use Rattle.sheet_tree.specs.Parse.{line_tree}
 use Rattle.sheet_sections.specs.Sheet.{sheet_of}
-use Rattle.sheet_sections.specs.declared.Reading.{Reading}
-use Rattle.sheet_sections.specs.declared.Reading.TheVariants.{Sound, Faulty}
 use Rattle.sheet_sections.specs.declared.Sections.{Sections}
 use Rattle.sheet.specs.Judge.{Contents, Judged, sound, faulty, on_reading, on_tree, tree_line, judge}
+use Rattle.sheet_lines.specs.declared.Fault.{Fault}
 
 faulty_sound : {f : Rattle.sheet_lines.specs.declared.Fault.Fault} {has : Contents} → faulty f ≡ sound has → ⊥
 faulty_sound e = let z : ◌≡◌ {A = ℕ} 0 1 = cc in omega arith
@@ -34,9 +32,9 @@ sound_same e = cc
 pub record SoundFrom (sheet : List ℕ) (has : Contents) : Type 0 where
   pub short : length sheet ≤ 65536
   pub sections : Sections
-  pub reading : (sheet_of sheet).rest.reading ≡ Sound sections
+  pub reading : (sheet_of sheet).rest.reading ≡ Ok sections
   pub end : ℕ
-  pub line : line_end sheet sections.tree ≡ At end
+  pub line : line_end sheet sections.tree ≡ Some end
   pub stop : ℕ
   pub marks : List ℕ
   pub tree : line_tree sheet (sheet_of sheet).names sections.tips sections.tree end ≡ got has.vine stop marks
@@ -59,7 +57,7 @@ sound_from sheet has h = by_length (ltb 65536 (length sheet)) refl h
     holds : Sections → Vine → Contents
     holds s vine = record { tips = s.tips; columns = s.columns; cells = s.cells; costs = costs; vine = vine }
 
-    by_end : (s : Sections) → (sheet_of sheet).rest.reading ≡ Sound s → (end : ℕ) → line_end sheet s.tree ≡ At end
+    by_end : (s : Sections) → (sheet_of sheet).rest.reading ≡ Ok s → (end : ℕ) → line_end sheet s.tree ≡ Some end
         → (vine : Vine) (e : ℕ) (m : List ℕ) → line_tree sheet names s.tips s.tree end ≡ got vine e m
         → length sheet ≤ 65536
         → (b : Bool) → eqb (end + 1) (length sheet) ≡ b
@@ -88,26 +86,26 @@ sound_from sheet has h = by_length (ltb 65536 (length sheet)) refl h
     after : Sections → ℕ → Vine → Judged
     after s end vine = pick (eqb (end + 1) (length sheet)) (sound (holds s vine)) (faulty (Sheet (s.line + 1)))
 
-    by_tree : (s : Sections) → (sheet_of sheet).rest.reading ≡ Sound s → (end : ℕ) → line_end sheet s.tree ≡ At end
+    by_tree : (s : Sections) → (sheet_of sheet).rest.reading ≡ Ok s → (end : ℕ) → line_end sheet s.tree ≡ Some end
         → length sheet ≤ 65536 → (p : Parsed) → line_tree sheet names s.tips s.tree end ≡ p
         → on_tree p (faulty (TreeText s.line)) (after s end) ≡ sound has → SoundFrom sheet has
     by_tree s reading end line short (got vine e m) tree g =
         by_end s reading end line vine e m tree short (eqb (end + 1) (length sheet)) refl g
     by_tree s reading end line short no_tree tree g = absurd (faulty_sound g)
 
-    by_line : (s : Sections) → (sheet_of sheet).rest.reading ≡ Sound s → length sheet ≤ 65536
-        → (p : Place) → line_end sheet s.tree ≡ p
+    by_line : (s : Sections) → (sheet_of sheet).rest.reading ≡ Ok s → length sheet ≤ 65536
+        → (p : Option ℕ) → line_end sheet s.tree ≡ p
         → on_place p (faulty (Sheet s.line))
         (λ end. on_tree (line_tree sheet names s.tips s.tree end) (faulty (TreeText s.line)) (after s end))
         ≡ sound has → SoundFrom sheet has
-    by_line s reading short (At end) line g =
+    by_line s reading short (Some end) line g =
         by_tree s reading end line short (line_tree sheet names s.tips s.tree end) refl g
-    by_line s reading short Nowhere line g = absurd (faulty_sound g)
+    by_line s reading short None line g = absurd (faulty_sound g)
 
-    by_reading : length sheet ≤ 65536 → (r : Reading) → (sheet_of sheet).rest.reading ≡ r
+    by_reading : length sheet ≤ 65536 → (r : Result Sections Fault) → (sheet_of sheet).rest.reading ≡ r
         → on_reading r (tree_line sheet names costs) ≡ sound has → SoundFrom sheet has
-    by_reading short (Sound s) reading g = by_line s reading short (line_end sheet s.tree) refl g
-    by_reading short (Faulty f) reading g = absurd (faulty_sound g)
+    by_reading short (Ok s) reading g = by_line s reading short (line_end sheet s.tree) refl g
+    by_reading short (Err f) reading g = absurd (faulty_sound g)
 
     whole : Judged
     whole = on_reading (sheet_of sheet).rest.reading (tree_line sheet names costs)

@@ -1,6 +1,6 @@
 -- What a sheet comes to: what it holds, or the first fault in the file.
 -- Assumes nothing.
-use Rattle.std.specs.Prelude.{List, ℕ, ◌+◌, eqb, ltb, length}
+use Rattle.std.specs.Prelude.{Result, Ok, Err, List, ℕ, ◌+◌, eqb, ltb, length}
 use Rattle.parsimony.specs.Test.{pick}
 use Rattle.sheet_lines.specs.Count.{on_place}
 use Rattle.sheet_lines.specs.Line.{line_end}
@@ -10,8 +10,6 @@ use Rattle.sheet_tips.specs.Tip.{Parsed, got, no_tree}
 use Rattle.sheet_tips.specs.Vine.{Vine}
 use Rattle.sheet_tree.specs.Parse.{line_tree}
 use Rattle.sheet_sections.specs.Sheet.{sheet_of}
-use Rattle.sheet_sections.specs.declared.Reading.{Reading}
-use Rattle.sheet_sections.specs.declared.Reading.TheVariants.{Sound, Faulty}
 use Rattle.sheet_sections.specs.declared.Sections.{Sections}
 
 -- what a sound sheet holds: the number of tips and of columns, the place of its first cell, its cost table and its tree
@@ -28,9 +26,9 @@ pub data Judged : Type 0 where
   faulty : Fault → Judged
 
 -- what follows from the sections, or from a fault
-unfoldable pub on_reading : Reading → (Sections → Judged) → Judged
-on_reading (Sound s) go = go s
-on_reading (Faulty f) go = faulty f
+unfoldable pub on_reading : Result Sections Fault → (Sections → Judged) → Judged
+on_reading (Ok s) go = go s
+on_reading (Err f) go = faulty f
 
 -- what follows from a tree, or where there is none
 unfoldable pub on_tree : Parsed → Judged → (Vine → Judged) → Judged

@@ -6,19 +6,16 @@ use mathlib.Core.Path.{◌≡◌, refl, subst}
 use Prim.Native.Nat.{ℕ, zero, suc, ◌+◌, ◌*◌, ◌<◌, ◌≤◌}
 use native.Mathlib.Nat.{suc-mul, zero-mul}
 use native.Mathlib.Omega.{arith}
-use Rattle.sheet_cells.specs.Cells.{row_judge, matrix_of}
+use Rattle.std.proofs.Common.{Result, Ok, Err}
+use Rattle.sheet_cells.specs.Cells.{cells_at, row_judge, matrix_of}
+use Rattle.sheet_cells.specs.declared.Matrix.{Matrix}
 use Rattle.sheet_cells.specs.IsRow.{IsRow, row_at, RowFault, FirstFault}
-use Rattle.sheet_cells.specs.declared.Matrix.TheVariants.{Cells, NoCells}
 use Rattle.sheet_lines.proofs.CountLaws.{count_read}
 use Rattle.sheet_lines.specs.Bytes.{bytes}
 use Rattle.sheet_lines.specs.Count.{count_of}
 use Rattle.sheet_lines.specs.Counting.{on_count, on_part}
 use Rattle.sheet_lines.specs.Section.{Item, follow, section}
-use Rattle.sheet_lines.specs.declared.Count.{Count}
-use Rattle.sheet_lines.specs.declared.Count.TheVariants.{Counted, Miscounted}
 use Rattle.sheet_lines.specs.declared.Fault.{Fault}
-use Rattle.sheet_lines.specs.declared.Part.{Part}
-use Rattle.sheet_lines.specs.declared.Part.TheVariants.{Read, Wrong}
 use Rattle.sheet_cells.proofs.RowLaws.{RowIs, sound, wrong, row_is}
 
 module _ (sheet : List ℕ) (c : ℕ) where
@@ -33,7 +30,7 @@ module _ (sheet : List ℕ) (c : ℕ) where
       subst (IsRow sheet c) here (rest r (omega arith))
 
   -- the rows of a section that is read
-  pub rows_read : (n at line next : ℕ) (before : List ℕ) → (section (row_judge c sheet) n at line before).part ≡ Read next
+  pub rows_read : (n at line next : ℕ) (before : List ℕ) → (section (row_judge c sheet) n at line before).part ≡ Ok next
       → (next ≡ row_at at c n) × ((r : ℕ) → r < n → IsRow sheet c (row_at at c r))
   unfolding section follow row_judge
   rows_read zero at line next before e =
@@ -43,9 +40,9 @@ module _ (sheet : List ℕ) (c : ℕ) where
       by_row (row_is sheet c at line) (λ i items. rows_read n i (line + 1) next items) e
     where
       by_row : {x : Item ℕ} → RowIs sheet c at line x
-          → ((i : ℕ) (items : List ℕ) → (section (row_judge c sheet) n i (line + 1) items).part ≡ Read next
+          → ((i : ℕ) (items : List ℕ) → (section (row_judge c sheet) n i (line + 1) items).part ≡ Ok next
           → (next ≡ row_at i c n) × ((r : ℕ) → r < n → IsRow sheet c (row_at i c r)))
-          → (follow x before (λ items i. section (row_judge c sheet) n i (line + 1) items)).part ≡ Read next
+          → (follow x before (λ items i. section (row_judge c sheet) n i (line + 1) items)).part ≡ Ok next
           → (next ≡ row_at at c (suc n)) × ((r : ℕ) → r < suc n → IsRow sheet c (row_at at c r))
       by_row (sound i here row) rest h =
           let r = rest i (before ++ at ∷ []) h in
@@ -57,7 +54,7 @@ module _ (sheet : List ℕ) (c : ℕ) where
 
   -- the first fault of a section that is refused
   pub cell_rows_refused : (n at line : ℕ) (before : List ℕ) (f : Fault)
-      → (section (row_judge c sheet) n at line before).part ≡ Wrong f
+      → (section (row_judge c sheet) n at line before).part ≡ Err f
       → FirstFault sheet c n at line f
   unfolding section follow row_judge
   cell_rows_refused zero at line before f e = let z : ◌≡◌ {A = ℕ} 0 1 = cc in absurd (omega arith)
@@ -81,9 +78,9 @@ module _ (sheet : List ℕ) (c : ℕ) where
           }
 
       by_row : {x : Item ℕ} → RowIs sheet c at line x
-          → ((i : ℕ) (items : List ℕ) → (section (row_judge c sheet) n i (line + 1) items).part ≡ Wrong f
+          → ((i : ℕ) (items : List ℕ) → (section (row_judge c sheet) n i (line + 1) items).part ≡ Err f
           → FirstFault sheet c n i (line + 1) f)
-          → (follow x before (λ items i. section (row_judge c sheet) n i (line + 1) items)).part ≡ Wrong f
+          → (follow x before (λ items i. section (row_judge c sheet) n i (line + 1) items)).part ≡ Err f
           → FirstFault sheet c (suc n) at line f
       by_row (sound i here row) rest h = later i here row (rest i (before ++ at ∷ []) h)
       by_row (wrong g w) rest h =
@@ -104,30 +101,26 @@ pub record CellsRead (sheet : List ℕ) (t c cells next : ℕ) : Type 0 where
   pub after : next ≡ row_at cells c t
   pub rows : (r : ℕ) → r < t → IsRow sheet c (row_at cells c r)
 
-pub cells_read : (t : ℕ) (sheet : List ℕ) (at line c cells next : ℕ) → matrix_of t sheet at line ≡ Cells c cells next
-    → CellsRead sheet t c cells next
+pub cells_read : (t : ℕ) (sheet : List ℕ) (at line : ℕ) (m : Matrix) → matrix_of t sheet at line ≡ Ok m
+    → CellsRead sheet t m.columns m.cells m.next
 unfolding matrix_of on_count on_part
-cells_read t sheet at line c cells next e = by_count (count_of (bytes "columns ") 0 65535 sheet at line) refl e
+cells_read t sheet at line m e = by_count (count_of (bytes "columns ") 0 65535 sheet at line) refl e
   where
-    by_part : (n from : ℕ) → count_of (bytes "columns ") 0 65535 sheet at line ≡ Counted n from → (p : Part)
+    by_part : (n from : ℕ) → count_of (bytes "columns ") 0 65535 sheet at line ≡ Ok (n, from) → (p : Result ℕ Fault)
         → (section (row_judge n sheet) t from (line + 1) []).part ≡ p
-        → on_part p NoCells (Cells n from) ≡ Cells c cells next → CellsRead sheet t c cells next
-    by_part n from counted (Wrong f) r h = let z : ◌≡◌ {A = ℕ} 0 1 = cc in absurd (omega arith)
-    by_part n from counted (Read i) r h =
-        let same_c : n ≡ c = cc in
-        let same_cells : from ≡ cells = cc in
-        let same_next : i ≡ next = cc in
+        → on_part p Err (λ i. Ok (cells_at n from i)) ≡ Ok m → CellsRead sheet t m.columns m.cells m.next
+    by_part n from counted (Err f) r h = let z : ◌≡◌ {A = ℕ} 0 1 = cc in absurd (omega arith)
+    by_part n from counted (Ok i) r h =
+        let same : ◌≡◌ {A = Matrix} (cells_at n from i) m = cc in
         let rows = rows_read sheet n t from (line + 1) i [] r in
         let count = count_read (bytes "columns ") 0 65535 sheet at line n from counted in
-        subst (λ k. CellsRead sheet t k cells next) same_c
-        (subst (λ k. CellsRead sheet t n k next) same_cells
-        (subst (λ k. CellsRead sheet t n from k) same_next
-        (record { columns = count.small; after = rows.0; rows = rows.1 })))
+        subst (λ k. CellsRead sheet t k.columns k.cells k.next) same
+        (record { columns = count.small; after = rows.0; rows = rows.1 })
 
-    by_count : (k : Count) → count_of (bytes "columns ") 0 65535 sheet at line ≡ k
-        → on_count k NoCells
-        (λ n from. on_part (section (row_judge n sheet) t from (line + 1) []).part NoCells (Cells n from))
-        ≡ Cells c cells next
-        → CellsRead sheet t c cells next
-    by_count (Miscounted f) r h = let z : ◌≡◌ {A = ℕ} 0 1 = cc in absurd (omega arith)
-    by_count (Counted n from) r h = by_part n from r (section (row_judge n sheet) t from (line + 1) []).part refl h
+    by_count : (k : Result (ℕ × ℕ) Fault) → count_of (bytes "columns ") 0 65535 sheet at line ≡ k
+        → on_count k Err
+        (λ n from. on_part (section (row_judge n sheet) t from (line + 1) []).part Err (λ i. Ok (cells_at n from i)))
+        ≡ Ok m
+        → CellsRead sheet t m.columns m.cells m.next
+    by_count (Err f) r h = let z : ◌≡◌ {A = ℕ} 0 1 = cc in absurd (omega arith)
+    by_count (Ok (n, from)) r h = by_part n from r (section (row_judge n sheet) t from (line + 1) []).part refl h

@@ -9,9 +9,11 @@ use native.Mathlib.Omega.{arith}
 use borrow.Author.Tests.{eqb-true, eqb-false}
 use lib.Dec.{eqb}
 use lib.ListN.{get_or}
-use Rattle.sheet_cells.specs.Cells.{is_states, is_symbol, row_of}
+use Rattle.std.proofs.Common.{Option, Some, None}
+use Rattle.std.specs.Option.{is_some}
+use Rattle.sheet_cells.specs.Cells.{is_symbol, row_of}
 use Rattle.sheet_cells.specs.IsRow.{IsRow, RowFault}
-use Rattle.sheet_lines.proofs.EveryLaws.{every_told, every_not}
+use Rattle.sheet_lines.proofs.EveryLaws.{no_test, every_told, every_not}
 use Rattle.sheet_lines.proofs.LineLaws.{line_read, line_found, line_none}
 use Rattle.sheet_lines.specs.Bytes.{text_of, every}
 use Rattle.sheet_lines.specs.IsLine.{IsLine}
@@ -19,29 +21,23 @@ use Rattle.sheet_lines.specs.Line.{line_end}
 use Rattle.sheet_lines.specs.Section.{Item, item, fault}
 use Rattle.sheet_lines.specs.declared.Fault.{Fault}
 use Rattle.sheet_lines.specs.declared.Fault.TheVariants.{Sheet, Symbol}
-use Rattle.sheet_lines.specs.declared.Place.{Place}
-use Rattle.sheet_lines.specs.declared.Place.TheVariants.{At, Nowhere}
 use Rattle.sheet_symbols.specs.Symbol.{symbol_of}
-use Rattle.sheet_symbols.specs.declared.Symbol as Symbols
-use Rattle.sheet_symbols.specs.declared.Symbol.TheVariants.{States, Unlisted}
 use Rattle.sheet_cells.proofs.CellSteps.{row_length, row_unlisted, row_whole, row_line, row_no_line}
 
-states_told : (answer : Symbols.Symbol) → is_states answer ≡ true → (set : ℕ) × (answer ≡ States set)
-unfolding is_states
-states_told (States set) e = (set, refl)
-states_told Unlisted e = let z : ◌≡◌ {A = ℕ} 0 1 = cc in absurd (omega arith)
+states_told : (answer : Option ℕ) → is_some answer ≡ true → (set : ℕ) × (answer ≡ Some set)
+states_told (Some set) e = (set, refl)
+states_told None e = no_test e
 
-states_not : (answer : Symbols.Symbol) → is_states answer ≡ false → answer ≡ Unlisted
-unfolding is_states
-states_not (States set) e = let z : ◌≡◌ {A = ℕ} 0 1 = cc in absurd (omega arith)
-states_not Unlisted e = refl
+states_not : (answer : Option ℕ) → is_some answer ≡ false → answer ≡ None
+states_not (Some set) e = no_test (sym e)
+states_not None e = refl
 
 -- the test of a byte says whether it is in the code list
-pub symbol_told : (byte : ℕ) → is_symbol byte ≡ true → (set : ℕ) × (symbol_of byte ≡ States set)
+pub symbol_told : (byte : ℕ) → is_symbol byte ≡ true → (set : ℕ) × (symbol_of byte ≡ Some set)
 unfolding is_symbol
 symbol_told byte e = states_told (symbol_of byte) e
 
-pub symbol_not : (byte : ℕ) → is_symbol byte ≡ false → symbol_of byte ≡ Unlisted
+pub symbol_not : (byte : ℕ) → is_symbol byte ≡ false → symbol_of byte ≡ None
 unfolding is_symbol
 symbol_not byte e = states_not (symbol_of byte) e
 
@@ -59,20 +55,20 @@ module _ (sheet : List ℕ) (c at line : ℕ) where
       let same : end ≡ at + c = same_end (sym first ∙ second) in
       n (omega arith)
     where
-      same_end : {i j : ℕ} → At i ≡ At j → i ≡ j
+      same_end : {i j : ℕ} → Some i ≡ Some j → i ≡ j
       same_end e = cc
 
   pub row_is : RowIs sheet c at line (row_of c sheet at line)
   row_is = by_line (line_end sheet at) refl
     where
-      by_every : (end : ℕ) → IsLine sheet at end → line_end sheet at ≡ At end → eqb (end - at) c ≡ true → (b : Bool)
+      by_every : (end : ℕ) → IsLine sheet at end → line_end sheet at ≡ Some end → eqb (end - at) c ≡ true → (b : Bool)
           → every is_symbol (text_of sheet at end) ≡ b → RowIs sheet c at line (row_of c sheet at line)
       by_every end whole l t true e =
           let from = whole.from in
           let inside = whole.inside in
           let size = eqb-true (end - at) c t in
           let here : end ≡ at + c = omega arith in
-          subst (RowIs sheet c at line) (row_whole c sheet at line end t e ∙ row_line c sheet at line end l)
+          subst (RowIs sheet c at line) (row_whole c sheet at line end size e ∙ row_line c sheet at line end l)
           (sound (end + 1) (omega arith)
           (record {
             line = subst (IsLine sheet at) here whole;
@@ -90,7 +86,7 @@ module _ (sheet : List ℕ) (c at line : ℕ) where
           let low = bad.1 in
           let high = bad.2 in
           let place : at + j ≡ bad.0 = omega arith in
-          subst (RowIs sheet c at line) (row_unlisted c sheet at line end t e ∙ row_line c sheet at line end l)
+          subst (RowIs sheet c at line) (row_unlisted c sheet at line end size e ∙ row_line c sheet at line end l)
           (wrong (Symbol line)
           (inr (
             refl,
@@ -98,15 +94,16 @@ module _ (sheet : List ℕ) (c at line : ℕ) where
             (j, omega arith, rw place (symbol_not (get_or sheet bad.0 0) bad.3)),
           )))
 
-      by_length : (end : ℕ) → IsLine sheet at end → line_end sheet at ≡ At end → (b : Bool) → eqb (end - at) c ≡ b
+      by_length : (end : ℕ) → IsLine sheet at end → line_end sheet at ≡ Some end → (b : Bool) → eqb (end - at) c ≡ b
           → RowIs sheet c at line (row_of c sheet at line)
       by_length end whole l true t = by_every end whole l t (every is_symbol (text_of sheet at end)) refl
       by_length end whole l false t =
-          subst (RowIs sheet c at line) (row_length c sheet at line end t ∙ row_line c sheet at line end l)
+          subst (RowIs sheet c at line)
+          (row_length c sheet at line end (eqb-false (end - at) c t) ∙ row_line c sheet at line end l)
           (wrong (Sheet line) (inl (refl, other_end end whole (eqb-false (end - at) c t))))
 
-      by_line : (p : Place) → line_end sheet at ≡ p → RowIs sheet c at line (row_of c sheet at line)
-      by_line Nowhere l =
+      by_line : (p : Option ℕ) → line_end sheet at ≡ p → RowIs sheet c at line (row_of c sheet at line)
+      by_line None l =
           subst (RowIs sheet c at line) (row_no_line c sheet at line l)
           (wrong (Sheet line) (inl (refl, line_none sheet at (at + c) l)))
-      by_line (At end) l = by_length end (line_read sheet at end l) l (eqb (end - at) c) refl
+      by_line (Some end) l = by_length end (line_read sheet at end l) l (eqb (end - at) c) refl

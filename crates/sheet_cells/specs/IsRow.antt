@@ -1,16 +1,15 @@
 -- What a row of cells is, in words.
 -- Assumes nothing.
-use Rattle.std.specs.Prelude.{List, ◌⊎◌, ◌≡◌, ℕ, ◌+◌, ◌*◌, ◌<◌, get_or}
+use Rattle.std.specs.Prelude.{Some, None, List, ◌⊎◌, ◌≡◌, ℕ, ◌+◌, ◌*◌, ◌<◌, get_or}
 use Rattle.sheet_lines.specs.IsLine.{IsLine}
 use Rattle.sheet_lines.specs.declared.Fault.{Fault}
 use Rattle.sheet_lines.specs.declared.Fault.TheVariants.{Sheet, Symbol}
 use Rattle.sheet_symbols.specs.Symbol.{symbol_of}
-use Rattle.sheet_symbols.specs.declared.Symbol.TheVariants.{States, Unlisted}
 
 -- the line at a place has c bytes, and each of them is in the code list
 pub record IsRow (sheet : List ℕ) (c at : ℕ) : Type 0 where
   pub line : IsLine sheet at (at + c)
-  pub listed : (j : ℕ) → j < c → (set : ℕ) × (symbol_of (get_or sheet (at + j) 0) ≡ States set)
+  pub listed : (j : ℕ) → j < c → (set : ℕ) × (symbol_of (get_or sheet (at + j) 0) ≡ Some set)
 
 -- Row r of c columns that start at a place, as a curator counts: each row before it takes its c bytes and a line end.
 abbrev pub row_at : ℕ → ℕ → ℕ → ℕ
@@ -23,7 +22,7 @@ RowFault sheet c at line f =
     ((f ≡ Sheet line) × (IsLine sheet at (at + c) → ⊥))
     ⊎ ((f ≡ Symbol line)
     × IsLine sheet at (at + c)
-    × ((j : ℕ) × (j < c) × (symbol_of (get_or sheet (at + j) 0) ≡ Unlisted)))
+    × ((j : ℕ) × (j < c) × (symbol_of (get_or sheet (at + j) 0) ≡ None)))
 
 -- the first row at fault of n rows that start at a place and a line
 pub record FirstFault (sheet : List ℕ) (c n at line : ℕ) (f : Fault) : Type 0 where

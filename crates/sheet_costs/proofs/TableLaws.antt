@@ -6,13 +6,12 @@ use Prim.Native.Nat.{ℕ, zero, suc, ◌+◌, ◌<◌}
 use native.Mathlib.Omega.{arith}
 use lib.ListN.{length, get_or, take}
 use lib.Seq.{length-take-le}
+use Rattle.std.proofs.Common.{Ok}
 use Rattle.sheet_costs.specs.CostRules.{RowRules, TableRules}
 use Rattle.sheet_costs.specs.Costs.{cost_judge, unit_table, cost_table, cost_count, costs_of}
 use Rattle.sheet_lines.proofs.CountingLaws.{counting_read}
 use Rattle.sheet_lines.proofs.SectionReads.{section_judged, section_size}
 use Rattle.sheet_lines.specs.Section.{section}
-use Rattle.sheet_lines.specs.declared.Count.TheVariants.{Counted}
-use Rattle.sheet_lines.specs.declared.Part.TheVariants.{Read}
 use Rattle.sheet_costs.proofs.CostLaws.{four_costs, cost_row_rules}
 
 -- the unit table keeps them
@@ -30,7 +29,7 @@ unit_rules = record { size = refl; rows = rows }
     rows (suc (suc (suc (suc x)))) h = absurd (omega arith)
 
 -- four lines that are read keep them
-pub lines_rules : (sheet : List ℕ) (at line next : ℕ) → (section (cost_judge sheet) 4 at line []).part ≡ Read next
+pub lines_rules : (sheet : List ℕ) (at line next : ℕ) → (section (cost_judge sheet) 4 at line []).part ≡ Ok next
     → TableRules (section (cost_judge sheet) 4 at line []).items
 unfolding cost_judge
 lines_rules sheet at line next e =
@@ -46,14 +45,14 @@ lines_rules sheet at line next e =
           (cost_row_rules sheet (length (take x items)) judged.place (line + x) _ judged.next judged.fair);
     }
 
-table_rules_lem : (sheet : List ℕ) (k at line next : ℕ) → (cost_table sheet k at line).part ≡ Read next
+table_rules_lem : (sheet : List ℕ) (k at line next : ℕ) → (cost_table sheet k at line).part ≡ Ok next
     → TableRules (cost_table sheet k at line).items
 unfolding cost_table
 table_rules_lem sheet zero at line next e = unit_rules
 table_rules_lem sheet (suc k) at line next e = lines_rules sheet at line next e
 
 -- a cost table that is read keeps them, and is the unit table where its count is 0
-pub costs_rules : (sheet : List ℕ) (at line k next : ℕ) → (costs_of sheet at line).count ≡ Counted k next
+pub costs_rules : (sheet : List ℕ) (at line k next : ℕ) → (costs_of sheet at line).count ≡ Ok (k, next)
     → TableRules (costs_of sheet at line).items
 unfolding costs_of
 costs_rules sheet at line k next e =
@@ -61,7 +60,7 @@ costs_rules sheet at line k next e =
     let read = counting_read (λ n i. cost_table sheet n i (line + 1)) count k next e in
     rw read.3 (table_rules_lem sheet k read.0 (line + 1) next read.2)
 
-pub costs_unit : (sheet : List ℕ) (at line k next : ℕ) → (costs_of sheet at line).count ≡ Counted k next → k ≡ 0
+pub costs_unit : (sheet : List ℕ) (at line k next : ℕ) → (costs_of sheet at line).count ≡ Ok (k, next) → k ≡ 0
     → (costs_of sheet at line).items ≡ unit_table
 unfolding costs_of cost_table
 costs_unit sheet at line k next e z =

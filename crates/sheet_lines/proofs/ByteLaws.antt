@@ -1,14 +1,20 @@
 -- A sheet from a place on, byte by byte; and ranges of bytes.
 -- Assumes nothing.
-use mathlib.Core.Bool.{Bool, true, false, not}
+use mathlib.Core.Bool.{Bool, true, false}
 use mathlib.Core.List.{List, [], ◌∷◌}
-use mathlib.Core.Path.{◌≡◌, refl, sym, ◌∙◌}
+use mathlib.Core.Path.{◌≡◌, refl, sym, ap, ◌∙◌}
 use Prim.Native.Nat.{ℕ, ◌+◌, ◌-◌, ◌<◌, ◌≤◌}
 use native.Mathlib.Numerals.{add-one}
-use borrow.Author.Tests.{le-leb, lt-leb, leb-true, not-true, not-false}
+use native.Mathlib.Omega.{arith}
+use borrow.Author.Tests.{le-leb, lt-leb, leb-true}
 use lib.Dec.{leb}
 use lib.ListN.{length, get_or, take, drop, drop_of_length-le}
 use lib.Seq.{drop-cons, slice-cons, length-slice, length-take-le}
+use Rattle.std.specs.Prelude.{◌&&◌}
+use Rattle.std.proofs.lemmas.List.{drop-take}
+use Rattle.std.specs.Char.{is_ascii_digit}
+use Rattle.std.specs.Int.{is_in_range}
+use Rattle.std.specs.List.{list_all}
 use Rattle.sheet_lines.specs.Bytes.{within, text_of, every}
 use Rattle.parsimony.specs.Test.{both}
 
@@ -19,13 +25,6 @@ drop_below sheet i h = rw (add-one, drop-cons sheet i 0)
 -- at the end: nothing
 pub drop_past : (sheet : List ℕ) (i : ℕ) → length sheet ≤ i → drop i sheet ≡ []
 drop_past sheet i h = drop_of_length-le sheet h
-
--- the result r of a function that answers the test b, where the code goes on if it is yes
-pub test_yes : {r b : Bool} → r ≡ b → not r ≡ false → b ≡ true
-test_yes {r} e n = sym e ∙ not-false r n
-
-pub test_no : {r b : Bool} → r ≡ b → not r ≡ true → b ≡ false
-test_no {r} e n = sym e ∙ not-true r n
 
 -- two tests in one
 pub both_parts : (a b : Bool) → both a b ≡ true → (a ≡ true) × (b ≡ true)
@@ -46,12 +45,38 @@ pub within_yes : (least most byte : ℕ) → least ≤ byte → byte ≤ most �
 unfolding within both
 within_yes least most byte l h = rw (le-leb least byte l, le-leb byte most h)
 
+and_both : (a b : Bool) → (a && b) ≡ both a b
+unfolding both
+and_both true b = refl
+and_both false b = refl
+
+-- the library's tests of a range and of a digit
+pub range_within : (least most byte : ℕ) → is_in_range least most byte ≡ within least most byte
+unfolding within
+range_within least most byte = and_both (leb least byte) (leb byte most)
+
+pub digit_within : (byte : ℕ) → is_ascii_digit byte ≡ within 48 57 byte
+digit_within byte = range_within 48 57 byte
+
+-- the library's test of every byte
+pub all_every : (f : ℕ → Bool) (bytes : List ℕ) → list_all f bytes ≡ every f bytes
+unfolding every
+all_every f [] = refl
+all_every f (byte ∷ more) = ap (λ b. f byte && b) (all_every f more) ∙ and_both (f byte) (every f more)
+
 -- what the test of a range says
 pub within_told : (least most byte : ℕ) → within least most byte ≡ true → (least ≤ byte) × (byte ≤ most)
 unfolding within
 within_told least most byte e =
     let e₂ = both_parts (leb least byte) (leb byte most) e in
     (leb-true least byte e₂.0, leb-true byte most e₂.1)
+
+-- a part of the sheet is the text between its places
+pub text_slice : (sheet : List ℕ) (at end : ℕ) → at ≤ end → take (end - at) (drop at sheet) ≡ text_of sheet at end
+unfolding text_of
+text_slice sheet at end h =
+    let e : at + (end - at) ≡ end = omega arith in
+    sym (drop-take at (end - at) sheet) ∙ ap (λ n. drop at (take n sheet)) e
 
 -- the text between two places, byte by byte
 pub text_on : (sheet : List ℕ) (i end : ℕ) → i < end → end ≤ length sheet

@@ -6,19 +6,18 @@ use mathlib.Core.Path.{◌≡◌, refl, sym, subst, ◌∙◌}
 use Prim.Native.Nat.{ℕ, zero, suc, ◌+◌, ◌<◌, ◌≤◌}
 use native.Mathlib.Omega.{arith}
 use lib.ListN.{length, get_or}
+use Rattle.std.proofs.Common.{Option, Some, None}
 use Rattle.sheet_lines.specs.Bytes.{within}
 use Rattle.sheet_lines.specs.IsLine.{IsLine}
 use Rattle.sheet_lines.specs.Line.{line_end}
-use Rattle.sheet_lines.specs.declared.Place.{Place}
-use Rattle.sheet_lines.specs.declared.Place.TheVariants.{At, Nowhere}
 use Rattle.parsimony.proofs.Order.{by_lt, by_eq}
 use Rattle.sheet_lines.proofs.ByteLaws.{within_told, within_yes}
 use Rattle.sheet_lines.proofs.LineSteps.{line_stop, line_on, line_bad, line_past}
 
-never : {A : Type 0} (p : Place) (end : ℕ) → Nowhere ≡ p → p ≡ At end → A
+never : {A : Type 0} (p : Option ℕ) (end : ℕ) → None ≡ p → p ≡ Some end → A
 never p end n e = let z : ◌≡◌ {A = ℕ} 0 1 = cc in absurd (omega arith)
 
-same_end : (p : Place) (i end : ℕ) → At i ≡ p → p ≡ At end → i ≡ end
+same_end : (p : Option ℕ) (i end : ℕ) → Some i ≡ p → p ≡ Some end → i ≡ end
 same_end p i end a e = cc
 
 -- a byte from 32 to 126 before a line makes a line
@@ -39,7 +38,7 @@ alone sheet i end h e same =
     subst (IsLine sheet i) same
     (record { from = omega arith; inside = h; stop = e; plain = λ k low high. absurd (omega arith) })
 
-read_by : (n : ℕ) (sheet : List ℕ) (i end : ℕ) → length sheet ≤ i + n → line_end sheet i ≡ At end → IsLine sheet i end
+read_by : (n : ℕ) (sheet : List ℕ) (i end : ℕ) → length sheet ≤ i + n → line_end sheet i ≡ Some end → IsLine sheet i end
 read_by zero sheet i end room e = never _ end (line_past sheet i (omega arith)) e
 read_by (suc n) sheet i end room e =
     by_lt i (length sheet)
@@ -48,23 +47,31 @@ read_by (suc n) sheet i end room e =
     (λ other. by_test h other (read_by n sheet (i + 1) end (omega arith)) (within 32 126 (get_or sheet i 0)) refl))
     (λ past. never _ end (line_past sheet i past) e)
   where
-    by_test : i < length sheet → (get_or sheet i 0 ≡ 10 → ⊥) → (line_end sheet (i + 1) ≡ At end → IsLine sheet (i + 1) end)
+    by_test : i < length sheet → (get_or sheet i 0 ≡ 10 → ⊥)
+        → (line_end sheet (i + 1) ≡ Some end → IsLine sheet (i + 1) end)
         → (b : Bool) → within 32 126 (get_or sheet i 0) ≡ b → IsLine sheet i end
     by_test h other rest true t = longer sheet i end t (rest (line_on sheet i h other t ∙ e))
     by_test h other rest false t = never _ end (line_bad sheet i h other t) e
 
 -- the end that is read is the end of a line
-pub line_read : (sheet : List ℕ) (at end : ℕ) → line_end sheet at ≡ At end → IsLine sheet at end
+pub line_read : (sheet : List ℕ) (at end : ℕ) → line_end sheet at ≡ Some end → IsLine sheet at end
 line_read sheet at end e = read_by (length sheet) sheet at end (omega arith) e
 
-found_by : (n : ℕ) (sheet : List ℕ) (i end : ℕ) → end ≤ i + n → IsLine sheet i end → line_end sheet i ≡ At end
+-- so it is not before the place, and within the sheet
+pub line_from : (sheet : List ℕ) (at end : ℕ) → line_end sheet at ≡ Some end → at ≤ end
+line_from sheet at end e = (line_read sheet at end e).from
+
+pub line_inside : (sheet : List ℕ) (at end : ℕ) → line_end sheet at ≡ Some end → end < length sheet
+line_inside sheet at end e = (line_read sheet at end e).inside
+
+found_by : (n : ℕ) (sheet : List ℕ) (i end : ℕ) → end ≤ i + n → IsLine sheet i end → line_end sheet i ≡ Some end
 found_by zero sheet i end room line =
     let same : i ≡ end = omega (arith, line.from) in
-    subst (λ (k : ℕ). line_end sheet k ≡ At end) (sym same) (sym (line_stop sheet end line.inside line.stop))
+    subst (λ (k : ℕ). line_end sheet k ≡ Some end) (sym same) (sym (line_stop sheet end line.inside line.stop))
 found_by (suc n) sheet i end room line =
     by_eq i end
     (λ same.
-    subst (λ (k : ℕ). line_end sheet k ≡ At end) (sym same) (sym (line_stop sheet end line.inside line.stop)))
+    subst (λ (k : ℕ). line_end sheet k ≡ Some end) (sym same) (sym (line_stop sheet end line.inside line.stop)))
     (λ other.
     let low : i < end = omega (arith, line.from) in
     let plain = line.plain i (omega arith) low in
@@ -79,9 +86,9 @@ found_by (suc n) sheet i end room line =
     }))
 
 -- every line is read
-pub line_found : (sheet : List ℕ) (at end : ℕ) → IsLine sheet at end → line_end sheet at ≡ At end
+pub line_found : (sheet : List ℕ) (at end : ℕ) → IsLine sheet at end → line_end sheet at ≡ Some end
 line_found sheet at end line = found_by end sheet at end (omega arith) line
 
 -- where no end is read there is no line
-pub line_none : (sheet : List ℕ) (at end : ℕ) → line_end sheet at ≡ Nowhere → IsLine sheet at end → ⊥
+pub line_none : (sheet : List ℕ) (at end : ℕ) → line_end sheet at ≡ None → IsLine sheet at end → ⊥
 line_none sheet at end e line = never _ end (sym e) (line_found sheet at end line)

@@ -6,14 +6,14 @@ use mathlib.Core.Path.{◌≡◌, sym, ◌∙◌}
 use Prim.Native.Nat.{ℕ, ◌+◌, ◌<◌, ◌≤◌}
 use borrow.Author.Tests.{eq-eqb, ne_eqb}
 use lib.ListN.{length, get_or}
+use Rattle.std.proofs.Common.{Some, None}
 use Rattle.sheet_lines.specs.Bytes.{within}
 use Rattle.sheet_lines.specs.Line.{end_in, line_end}
-use Rattle.sheet_lines.specs.declared.Place.TheVariants.{At, Nowhere}
 use Rattle.parsimony.proofs.Order.{pick_true, pick_false}
 use Rattle.sheet_lines.proofs.ByteLaws.{drop_below, drop_past}
 
 -- a byte 10: the end
-pub line_stop : (sheet : List ℕ) (i : ℕ) → i < length sheet → get_or sheet i 0 ≡ 10 → At i ≡ line_end sheet i
+pub line_stop : (sheet : List ℕ) (i : ℕ) → i < length sheet → get_or sheet i 0 ≡ 10 → Some i ≡ line_end sheet i
 unfolding line_end end_in
 line_stop sheet i h e = rw (drop_below sheet i h) (sym (pick_true _ _ (eq-eqb _ _ e)))
 
@@ -25,11 +25,11 @@ line_on sheet i h n e = rw (drop_below sheet i h) (sym (pick_false _ _ (ne_eqb _
 
 -- another byte: no line
 pub line_bad : (sheet : List ℕ) (i : ℕ) → i < length sheet → (get_or sheet i 0 ≡ 10 → ⊥)
-    → within 32 126 (get_or sheet i 0) ≡ false → Nowhere ≡ line_end sheet i
+    → within 32 126 (get_or sheet i 0) ≡ false → None ≡ line_end sheet i
 unfolding line_end end_in
 line_bad sheet i h n e = rw (drop_below sheet i h) (sym (pick_false _ _ (ne_eqb _ _ n) ∙ pick_false _ _ e))
 
 -- nothing left: no line
-pub line_past : (sheet : List ℕ) (i : ℕ) → length sheet ≤ i → Nowhere ≡ line_end sheet i
+pub line_past : (sheet : List ℕ) (i : ℕ) → length sheet ≤ i → None ≡ line_end sheet i
 unfolding line_end end_in
 line_past sheet i h = rw (drop_past sheet i h)

@@ -7,9 +7,9 @@ use Prim.Native.Nat.{ℕ, zero, suc, ◌+◌, ◌<◌, ◌≤◌}
 use native.Mathlib.Omega.{arith}
 use lib.ListN.{length, get_or, take, length-append}
 use lib.Seq.{take-append_seam, get_or-append_seam}
+use Rattle.std.proofs.Common.{Ok, Err}
 use Rattle.sheet_lines.specs.Section.{Item, item, fault, follow, section}
 use Rattle.sheet_lines.specs.declared.Fault.{Fault}
-use Rattle.sheet_lines.specs.declared.Part.TheVariants.{Read, Wrong}
 use Rattle.parsimony.proofs.Order.{by_eq}
 
 -- item i of a section whose first line has the number first: it was judged by the items before it, at some place of
@@ -86,7 +86,7 @@ module _ {A : Type 0} (judge : List A → ℕ → ℕ → Item A) where
       by_item (fault f) e rest h = absurd (omega arith)
 
   -- a section that is read has an item for each line
-  pub section_size : (n at line next : ℕ) (before : List A) → (section judge n at line before).part ≡ Read next
+  pub section_size : (n at line next : ℕ) (before : List A) → (section judge n at line before).part ≡ Ok next
       → length (section judge n at line before).items ≡ length before + n
   unfolding section follow
   section_size zero at line next before e = omega arith
@@ -94,16 +94,16 @@ module _ {A : Type 0} (judge : List A → ℕ → ℕ → Item A) where
       by_item (judge before at line) (λ a i. section_size n i (line + 1) next (before ++ a ∷ [])) e
     where
       by_item : (x : Item A)
-          → ((a : A) (i : ℕ) → (section judge n i (line + 1) (before ++ a ∷ [])).part ≡ Read next
+          → ((a : A) (i : ℕ) → (section judge n i (line + 1) (before ++ a ∷ [])).part ≡ Ok next
           → length (section judge n i (line + 1) (before ++ a ∷ [])).items ≡ length (before ++ a ∷ []) + n)
-          → (follow x before (λ items i. section judge n i (line + 1) items)).part ≡ Read next
+          → (follow x before (λ items i. section judge n i (line + 1) items)).part ≡ Ok next
           → length (follow x before (λ items i. section judge n i (line + 1) items)).items ≡ length before + suc n
       by_item (item a i) rest h = let r = rest a i h in omega (arith, longer before a)
       by_item (fault f) rest h = let z : ◌≡◌ {A = ℕ} 0 1 = cc in absurd (omega arith)
 
   -- a section that is refused has the items before the line at fault
   pub section_failed : (n at line first : ℕ) (before : List A) (f : Fault) → line ≡ first + length before
-      → (section judge n at line before).part ≡ Wrong f
+      → (section judge n at line before).part ≡ Err f
       → Failed judge first (length before + n) (section judge n at line before).items f
   unfolding section follow
   section_failed zero at line first before f number e = let z : ◌≡◌ {A = ℕ} 0 1 = cc in absurd (omega arith)
@@ -112,10 +112,10 @@ module _ {A : Type 0} (judge : List A → ℕ → ℕ → Item A) where
       (λ a i. section_failed n i (line + 1) first (before ++ a ∷ []) f (omega (arith, longer before a))) e
     where
       by_item : (x : Item A) → judge before at line ≡ x
-          → ((a : A) (i : ℕ) → (section judge n i (line + 1) (before ++ a ∷ [])).part ≡ Wrong f
+          → ((a : A) (i : ℕ) → (section judge n i (line + 1) (before ++ a ∷ [])).part ≡ Err f
           → Failed judge first (length (before ++ a ∷ []) + n)
           (section judge n i (line + 1) (before ++ a ∷ [])).items f)
-          → (follow x before (λ items i. section judge n i (line + 1) items)).part ≡ Wrong f
+          → (follow x before (λ items i. section judge n i (line + 1) items)).part ≡ Err f
           → Failed judge first (length before + suc n)
           (follow x before (λ items i. section judge n i (line + 1) items)).items f
       by_item (item a i) j rest h =

@@ -1,37 +1,54 @@
--- A word, letter by letter.
+-- A word of the sheet is the word that the bytes from its place on start with.
 -- Assumes nothing.
-use mathlib.Core.List.{List}
-use mathlib.Core.Path.{◌≡◌, sym}
-use Prim.Native.Nat.{ℕ, ◌+◌, ◌<◌, ◌≤◌}
+use mathlib.Core.Bool.{true, false}
+use mathlib.Core.List.{List, [], ◌∷◌}
+use mathlib.Core.Path.{◌≡◌, refl, sym, ap, ◌∙◌}
+use Prim.Native.Nat.{ℕ, ◌+◌, ◌-◌}
+use native.Mathlib.Nat.{add-zero}
+use native.Mathlib.Omega.{arith}
 use borrow.Author.Tests.{eq-eqb, ne_eqb}
-use lib.ListN.{length, get_or, drop}
-use Rattle.sheet_lines.specs.Word.{word_in}
-use Rattle.sheet_lines.specs.declared.Place.TheVariants.{At, Nowhere}
-use Rattle.parsimony.proofs.Order.{pick_true, pick_false}
-use Rattle.sheet_lines.proofs.ByteLaws.{drop_below, drop_past}
+use lib.Dec.{eqb}
+use lib.ListN.{length, drop, drop_of_length-le}
+use Rattle.std.proofs.Common.{Option, Some, None, Bor, unwrap_or, ⊎_elim}
+use Rattle.std.proofs.lemmas.List.{take_all, length-drop}
+use Rattle.std.specs.List.{starts_with}
+use Rattle.std.specs.Slice.{IsGetRangeResult}
+use Rattle.sheet_lines.specs.Word.{word_in, word_of}
+use Rattle.parsimony.proofs.Order.{by_eq}
+use Rattle.parsimony.specs.Test.{pick}
 
--- the same letter: the word goes on
-pub word_on : (sheet word : List ℕ) (i j : ℕ) → i < length sheet → j < length word
-    → get_or sheet i 0 ≡ get_or word j 0
-    → word_in (drop (j + 1) word) (drop (i + 1) sheet) (i + 1) ≡ word_in (drop j word) (drop i sheet) i
-unfolding word_in
-word_on sheet word i j h l e =
-    rw (drop_below word j l, drop_below sheet i h) (sym (pick_true _ _ (eq-eqb _ _ e)))
+word_in_starts : (word bytes : List ℕ) (i : ℕ)
+    → word_in word bytes i ≡ pick (starts_with eqb bytes word) (Some (i + length word)) None
+unfolding word_in pick
+word_in_starts [] bytes i = ap (λ k. Some k) (sym (add-zero i))
+word_in_starts (letter ∷ word) [] i = refl
+word_in_starts (letter ∷ word) (byte ∷ more) i =
+    by_eq byte letter
+    (λ same.
+    rw (eq-eqb byte letter same, eq-eqb letter byte (sym same))
+    (word_in_starts word more (i + 1)
+    ∙ ap (λ k. pick {A = Option ℕ} (starts_with eqb more word) (Some k) None) (omega arith)))
+    (λ other. rw (ne_eqb byte letter other, ne_eqb letter byte (λ e. other (sym e))))
 
--- another letter: no such word
-pub word_other : (sheet word : List ℕ) (i j : ℕ) → i < length sheet → j < length word
-    → (get_or sheet i 0 ≡ get_or word j 0 → ⊥) → Nowhere ≡ word_in (drop j word) (drop i sheet) i
-unfolding word_in
-word_other sheet word i j h l e =
-    rw (drop_below word j l, drop_below sheet i h) (sym (pick_false _ _ (ne_eqb _ _ e)))
+module _ (word sheet rest : List ℕ) (at : ℕ) (here : rest ≡ drop at sheet) where
+  -- the sheet has the word at the place
+  pub word_starts : starts_with eqb rest word ≡ true → Some (at + length word) ≡ word_of word sheet at
+  unfolding word_of pick
+  word_starts e =
+      let s = ap (λ r. starts_with eqb r word) here in
+      sym (rw (sym s ∙ e) at (word_in_starts word (drop at sheet) at))
 
--- the sheet is over before the word
-pub word_short : (sheet word : List ℕ) (i j : ℕ) → length sheet ≤ i → j < length word
-    → Nowhere ≡ word_in (drop j word) (drop i sheet) i
-unfolding word_in
-word_short sheet word i j h l = rw (drop_below word j l, drop_past sheet i h)
+  -- it has another text there
+  pub word_other : starts_with eqb rest word ≡ false → None ≡ word_of word sheet at
+  unfolding word_of pick
+  word_other e =
+      let s = ap (λ r. starts_with eqb r word) here in
+      sym (rw (sym s ∙ e) at (word_in_starts word (drop at sheet) at))
 
--- the word is over
-pub word_whole : (sheet word : List ℕ) (i j : ℕ) → length word ≤ j → At i ≡ word_in (drop j word) (drop i sheet) i
-unfolding word_in
-word_whole sheet word i j h = rw (drop_past word j h)
+-- the sheet from a place on, or nothing where the place is past its end
+pub rest_is : (sheet : List ℕ) (at : ℕ) (found : Option (Bor (List ℕ))) (none : Bor (List ℕ)) → none.now ≡ []
+    → IsGetRangeResult sheet at (length sheet) found → (unwrap_or found none).now ≡ drop at sheet
+rest_is sheet at (Some part) none e lookup =
+    lookup.0.2 ∙ take_all (length sheet - at) (drop at sheet) (omega (arith, length-drop at sheet))
+rest_is sheet at None none e lookup =
+    ⊎_elim (λ h. e ∙ sym (drop_of_length-le sheet (omega arith))) (λ h. absurd (omega arith)) lookup.0

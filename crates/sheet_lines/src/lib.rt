@@ -1,10 +1,9 @@
 // The lines of a sheet: its bytes and line ends, words, numbers and count lines.
 #![tactic(auto)]
 
-ghost use Rattle.std.specs.Prelude.{◌≡◌, ◌-◌, ◌≤◌};
+ghost use Rattle.std.specs.Prelude.{◌≡◌, ◌≤◌, length, drop};
 ghost use Rattle.sheet_lines.specs.Bytes.{within};
 ghost use Rattle.sheet_lines.specs.Count.{count_of};
-ghost use Rattle.sheet_lines.specs.Counting.{with_count};
 ghost use Rattle.sheet_lines.specs.Line.{line_end};
 ghost use Rattle.sheet_lines.specs.Number.{digits_of, number_at, field_of};
 ghost use Rattle.sheet_lines.specs.Word.{word_of};
@@ -17,34 +16,6 @@ pub enum Fault {
     TreeText(usize),
 }
 
-// A place in the sheet, or none.
-#[derive(Clone, Copy)]
-pub enum Place {
-    At(usize),
-    Nowhere,
-}
-
-// A number and the place after it, or no number.
-#[derive(Clone, Copy)]
-pub enum Number {
-    Value(usize, usize),
-    NoNumber,
-}
-
-// What a section comes to: the place of the next line, or a fault.
-#[derive(Clone, Copy)]
-pub enum Part {
-    Read(usize),
-    Wrong(Fault),
-}
-
-// What a count line comes to: the count and the place of the next line, or a fault.
-#[derive(Clone, Copy)]
-pub enum Count {
-    Counted(usize, usize),
-    Miscounted(Fault),
-}
-
 // The byte that ends a line.
 pub const LINE_END: u8 = 10;
 
@@ -54,130 +25,102 @@ pub const SPACE: u8 = 32;
 // How many names a sheet may have.
 pub const MOST_NAMES: usize = 512;
 
-// The byte of the digit 0.
-const ZERO: u8 = 48;
-
-// The byte of the digit 9.
-const NINE: u8 = 57;
-
 // The byte is least to most.
+#[tactic(auto, unfolding(crate::specs::Bytes::within, parsimony::specs::Test::both))]
 pub fn byte_within(byte: u8, least: u8, most: u8) -> bool
     ensures { result ≡ within least most byte }
 {
-    if byte < least {
-        return false;
-    }
-    if most < byte {
-        return false;
-    }
-    true
+    least <= byte && byte <= most
 }
 
 // The end of the line that starts at a place: its byte 10, where all bytes before it are 32 to 126.
-pub fn line_end(sheet: &[u8], at: usize) -> Place
+#[tactic(auto, using(crate::proofs::LineSteps::line_stop, crate::proofs::LineSteps::line_on, crate::proofs::LineSteps::line_bad, crate::proofs::LineSteps::line_past))]
+pub fn line_end(sheet: &[u8], at: usize) -> Option<usize>
     ensures { result ≡ line_end sheet.now at }
 {
-    let mut i = at;
-    while i < sheet.len() {
+    for i in at..sheet.len() {
         if sheet[i] == LINE_END {
-            return Place::At(i);
+            return Some(i);
         }
         if !byte_within(sheet[i], 32, 126) {
-            return Place::Nowhere;
+            return None;
         }
-        i += 1;
     }
-    Place::Nowhere
+    None
+}
+
+// The sheet from a place on: nothing, where the place is past its end.
+pub fn rest_from(sheet: &[u8], at: usize) -> &[u8]
+    ensures { result.now ≡ drop at sheet.now }
+{
+    sheet.get(at..).unwrap_or(&[])
 }
 
 // The place after the word, where the sheet has the word at a place.
-pub fn word_end(sheet: &[u8], at: usize, word: &[u8]) -> Place
+#[tactic(auto, using(crate::proofs::WordSteps::word_starts, crate::proofs::WordSteps::word_other))]
+pub fn word_end(sheet: &[u8], at: usize, word: &[u8]) -> Option<usize>
     ensures { result ≡ word_of word.now sheet.now at }
 {
-    let mut i = at;
-    let mut j = 0;
-    while j < word.len() {
-        if sheet.len() <= i {
-            return Place::Nowhere;
-        }
-        if sheet[i] != word[j] {
-            return Place::Nowhere;
-        }
-        i += 1;
-        j += 1;
+    if rest_from(sheet, at).starts_with(word) {
+        Some(at + word.len())
+    } else {
+        None
     }
-    Place::At(i)
-}
-
-// What a digit counts.
-fn digit_value(byte: u8) -> usize
-    ensures { result ≡ byte - 48 }
-{
-    if byte < ZERO {
-        return 0;
-    }
-    (byte - ZERO) as usize
 }
 
 // The number that the digits from a place on make after a value, if it is at most most.
-fn more_digits(sheet: &[u8], at: usize, start: usize, most: usize) -> Number
-    requires { (start ≤ 9) × (most ≤ 65535) }
+#[tactic(auto, using(crate::proofs::NumberSteps::digits_over, crate::proofs::NumberSteps::digits_stop, crate::proofs::NumberSteps::digits_on, crate::proofs::NumberSteps::digits_end, crate::proofs::ByteLaws::digit_within))]
+fn more_digits(sheet: &[u8], at: usize, start: usize, most: usize) -> Option<(usize, usize)>
+    requires { (at ≤ length sheet.now) × (start ≤ 9) × (most ≤ 65535) }
     ensures { result ≡ digits_of most sheet.now start at }
 {
     let mut value = start;
-    let mut i = at;
-    while i < sheet.len() {
+    for i in at..sheet.len() {
         if most < value {
-            return Number::NoNumber;
+            return None;
         }
-        if !byte_within(sheet[i], ZERO, NINE) {
-            return Number::Value(value, i);
+        if !sheet[i].is_ascii_digit() {
+            return Some((value, i));
         }
-        value = value * 10 + digit_value(sheet[i]);
-        i += 1;
+        value = value * 10 + usize::from(sheet[i] - b'0');
     }
     if most < value {
-        return Number::NoNumber;
+        return None;
     }
-    Number::Value(value, i)
+    Some((value, sheet.len()))
 }
 
-// The number that starts at a place, with no leading zero, if it is at most most.
-#[tactic(auto, using(crate::proofs::NumberSteps::number_past, crate::proofs::NumberSteps::number_zero, crate::proofs::NumberSteps::number_none, crate::proofs::NumberSteps::number_more))]
-pub fn number_at(sheet: &[u8], at: usize, most: usize) -> Number
+// The number that starts at a place, with no leading zero, if it is at most most; and the place after it.
+#[tactic(auto, using(crate::proofs::NumberSteps::number_past, crate::proofs::NumberSteps::number_zero, crate::proofs::NumberSteps::number_none, crate::proofs::NumberSteps::number_more, crate::proofs::ByteLaws::digit_within))]
+pub fn number_at(sheet: &[u8], at: usize, most: usize) -> Option<(usize, usize)>
     requires { most ≤ 65535 }
     ensures { result ≡ number_at most sheet.now at }
 {
-    if sheet.len() <= at {
-        return Number::NoNumber;
+    let first = *sheet.get(at)?;
+    if first == b'0' {
+        return Some((0, at + 1));
     }
-    if sheet[at] == ZERO {
-        return Number::Value(0, at + 1);
+    if !first.is_ascii_digit() {
+        return None;
     }
-    if !byte_within(sheet[at], ZERO, NINE) {
-        return Number::NoNumber;
-    }
-    more_digits(sheet, at + 1, digit_value(sheet[at]), most)
+    more_digits(sheet, at + 1, usize::from(first - b'0'), most)
 }
 
-// The number that starts at a place, and the byte stop after it.
-pub fn field_at(sheet: &[u8], at: usize, most: usize, stop: u8) -> Number
+// The number that starts at a place, and the place after the byte stop behind it.
+#[tactic(auto, using(crate::proofs::NumberSteps::field_none, crate::proofs::NumberSteps::field_past, crate::proofs::NumberSteps::field_other, crate::proofs::NumberSteps::field_whole))]
+pub fn field_at(sheet: &[u8], at: usize, most: usize, stop: u8) -> Option<(usize, usize)>
     requires { most ≤ 65535 }
     ensures { result ≡ field_of most stop sheet.now at }
 {
-    let Number::Value(n, next) = number_at(sheet, at, most) else {
-        return Number::NoNumber;
-    };
-    if sheet.len() <= next {
-        return Number::NoNumber;
+    let (n, next) = number_at(sheet, at, most)?;
+    if *sheet.get(next)? != stop {
+        return None;
     }
-    if sheet[next] != stop {
-        return Number::NoNumber;
-    }
-    Number::Value(n, next + 1)
+    Some((n, next + 1))
 }
 
-// The count of a count line: the word, a number from least to most, and the line end.
+// The count of a count line, and the place of the next line: the word, a number from least to most, and the line end.
+#[tactic(auto, using(crate::proofs::CountSteps::count_no_word, crate::proofs::CountSteps::count_no_number, crate::proofs::CountSteps::count_few, crate::proofs::CountSteps::count_whole))]
 pub fn read_count(
     sheet: &[u8],
     at: usize,
@@ -185,28 +128,14 @@ pub fn read_count(
     word: &[u8],
     least: usize,
     most: usize,
-) -> Count
+) -> Result<(usize, usize), Fault>
     requires { most ≤ 65535 }
     ensures { result ≡ count_of word.now least most sheet.now at line }
 {
-    let Place::At(digits) = word_end(sheet, at, word) else {
-        return Count::Miscounted(Fault::Sheet(line));
-    };
-    let Number::Value(n, next) = field_at(sheet, digits, most, LINE_END) else {
-        return Count::Miscounted(Fault::Sheet(line));
-    };
+    let digits = word_end(sheet, at, word).ok_or(Fault::Sheet(line))?;
+    let (n, next) = field_at(sheet, digits, most, LINE_END).ok_or(Fault::Sheet(line))?;
     if n < least {
-        return Count::Miscounted(Fault::Sheet(line));
+        return Err(Fault::Sheet(line));
     }
-    Count::Counted(n, next)
-}
-
-// The count n, with the place that its section ends at or the section's fault.
-pub fn with_count(n: usize, part: Part) -> Count
-    ensures { result ≡ with_count n part }
-{
-    match part {
-        Part::Read(next) => Count::Counted(n, next),
-        Part::Wrong(fault) => Count::Miscounted(fault),
-    }
+    Ok((n, next))
 }

@@ -1,99 +1,147 @@
 -- A name and its line, part by part; two lines beside each other, byte by byte; and a name beside the earlier ones.
 -- Assumes nothing.
-use mathlib.Core.Bool.{true, false}
-use mathlib.Core.List.{List}
-use mathlib.Core.Path.{◌≡◌, sym, ◌∙◌}
+use mathlib.Core.Bool.{Bool, true, false}
+use mathlib.Core.List.{List, [], ◌∷◌}
+use mathlib.Core.Path.{◌≡◌, refl, sym, ap, ◌∙◌}
 use Prim.Native.Nat.{ℕ, ◌+◌, ◌-◌, ◌<◌, ◌≤◌}
 use native.Mathlib.Omega.{arith}
 use borrow.Author.Tests.{eq-eqb, ne_eqb}
-use lib.ListN.{length, get_or, drop}
-use Rattle.sheet_lines.proofs.ByteLaws.{drop_below, drop_past, text_on, text_end, text_length, within_low, within_high}
-use Rattle.sheet_lines.proofs.ByteLaws.{within_yes}
-use Rattle.sheet_lines.specs.Bytes.{text_of, every}
+use lib.Dec.{eqb}
+use lib.ListN.{length, take, drop}
+use Rattle.std.proofs.Common.{Some, None, not, ◌||◌, ◌⊎◌, ⊎_elim}
+use Rattle.std.specs.Char.{is_ascii_alphanumeric}
+use Rattle.std.specs.List.{list_any, list_all}
+use Rattle.sheet_lines.proofs.ByteLaws.{within_low, within_high, within_yes, range_within, all_every, text_slice}
+use Rattle.sheet_lines.proofs.EveryLaws.{no_test}
+use Rattle.sheet_lines.proofs.LineLaws.{line_from}
+use Rattle.sheet_lines.specs.Bytes.{within, text_of}
 use Rattle.sheet_lines.specs.Count.{on_place}
 use Rattle.sheet_lines.specs.Line.{line_end}
 use Rattle.sheet_lines.specs.Section.{item, fault}
 use Rattle.sheet_lines.specs.declared.Fault.TheVariants.{Sheet}
-use Rattle.sheet_lines.specs.declared.Place.TheVariants.{At, Nowhere}
-use Rattle.sheet_names.specs.Name.{is_name_byte, is_name, same_text, is_new}
+use Rattle.sheet_names.specs.Name.{either, is_name_byte, is_name, same_text, is_new}
 use Rattle.sheet_names.specs.Names.{name_of}
-use Rattle.parsimony.proofs.Order.{pick_true, pick_false}
-use Rattle.parsimony.specs.Test.{both}
+use Rattle.parsimony.proofs.Order.{by_eq, pick_true, pick_false}
+use Rattle.parsimony.specs.Test.{both, pick}
 
-module _ (sheet : List ℕ) (at end : ℕ) (l : end ≤ length sheet) where
-  -- no byte
-  pub name_short : end - at < 1 → false ≡ is_name (text_of sheet at end)
-  unfolding is_name both
-  name_short h = rw (text_length sheet at end l, ← within_low 1 32 (end - at) h)
+-- the library's test of a letter or a digit, by ranges
+letters : (byte : ℕ)
+    → is_ascii_alphanumeric byte ≡ ((within 48 57 byte || within 65 90 byte) || within 97 122 byte)
+letters byte = λ i. (range_within 48 57 byte i || range_within 65 90 byte i) || range_within 97 122 byte i
 
-  -- more than 32 bytes
-  pub name_long : 32 < end - at → false ≡ is_name (text_of sheet at end)
-  unfolding is_name both
-  name_long h = rw (text_length sheet at end l, ← within_high 1 32 (end - at) (omega arith) h)
+first_three : (a b c d : Bool) → ((c || a) || b) ≡ true → true ≡ either a (either b (either c d))
+unfolding either
+first_three true b c d e = refl
+first_three false true c d e = refl
+first_three false false true d e = refl
+first_three false false false d e = no_test e
 
-  -- 1 to 32 bytes: the bytes decide
-  pub name_fits : 1 ≤ end - at → end - at ≤ 32 → every is_name_byte (text_of sheet at end) ≡ is_name (text_of sheet at end)
-  unfolding is_name both
-  name_fits h k = rw (text_length sheet at end l, ← within_yes 1 32 (end - at) h k)
+last_three : (a b c d : Bool) → ((c || a) || b) ≡ false → d ≡ either a (either b (either c d))
+unfolding either
+last_three false false false d e = refl
+last_three true b true d e = no_test (sym e)
+last_three true b false d e = no_test (sym e)
+last_three false b true d e = no_test (sym e)
+last_three false true false d e = no_test (sym e)
 
-module _ (sheet : List ℕ) (i j : ℕ) where
+or_either : (a b c : Bool) → (a || (b || (c || false))) ≡ either a (either b c)
+unfolding either
+or_either true b c = refl
+or_either false true c = refl
+or_either false false true = refl
+or_either false false false = refl
+
+eqb_back : (a b : ℕ) → eqb a b ≡ eqb b a
+eqb_back a b =
+    by_eq a b (λ same. eq-eqb a b same ∙ sym (eq-eqb b a (sym same)))
+    (λ other. ne_eqb a b other ∙ sym (ne_eqb b a (λ e. other (sym e))))
+
+-- the test of a byte of a name in the words of the library
+pub name_byte_yes : (byte : ℕ) → is_ascii_alphanumeric byte ≡ true → true ≡ is_name_byte byte
+unfolding is_name_byte
+name_byte_yes byte e =
+    first_three (within 65 90 byte) (within 97 122 byte) (within 48 57 byte) _ (sym (letters byte) ∙ e)
+
+pub name_byte_no : (byte : ℕ) → is_ascii_alphanumeric byte ≡ false
+    → list_any (λ b. eqb b byte) (95 ∷ 46 ∷ 45 ∷ []) ≡ is_name_byte byte
+unfolding is_name_byte
+name_byte_no byte e =
+    or_either (eqb 95 byte) (eqb 46 byte) (eqb 45 byte)
+    ∙ (λ i. either (eqb_back 95 byte i) (either (eqb_back 46 byte i) (eqb_back 45 byte i)))
+    ∙ last_three (within 65 90 byte) (within 97 122 byte) (within 48 57 byte) _ (sym (letters byte) ∙ e)
+
+-- a text of no byte, of more than 32, and of 1 to 32, whose bytes decide
+pub name_short : (text : List ℕ) → length text ≡ 0 → false ≡ is_name text
+unfolding is_name both
+name_short text h = rw (← within_low 1 32 (length text) (omega arith))
+
+pub name_long : (text : List ℕ) → 32 < length text → false ≡ is_name text
+unfolding is_name both
+name_long text h = rw (← within_high 1 32 (length text) (omega arith) h)
+
+pub name_fits : (text : List ℕ) {r : Bool} → (length text ≡ 0 → ⊥) → length text ≤ 32 → r ≡ list_all is_name_byte text
+    → r ≡ is_name text
+unfolding is_name both
+name_fits text h k e = rw (← within_yes 1 32 (length text) (omega arith) k) (e ∙ all_every is_name_byte text)
+
+-- two lines, byte by byte
+module _ {a b : ℕ} {left right one other : List ℕ} (l : left ≡ a ∷ one) (r : right ≡ b ∷ other) where
   -- the same byte, and no line end: the rest decides
-  pub same_on : i < length sheet → j < length sheet → get_or sheet i 0 ≡ get_or sheet j 0 → (get_or sheet i 0 ≡ 10 → ⊥)
-      → same_text (drop (i + 1) sheet) (drop (j + 1) sheet) ≡ same_text (drop i sheet) (drop j sheet)
+  pub same_on : a ≡ b → (a ≡ 10 → ⊥) → same_text one other ≡ same_text left right
   unfolding same_text
-  same_on h k e n =
-      rw (drop_below sheet i h, drop_below sheet j k)
-      (sym (pick_true _ _ (eq-eqb _ _ e) ∙ pick_false _ _ (ne_eqb _ _ n)))
+  same_on e n = rw (l, r) (sym (pick_true _ _ (eq-eqb _ _ e) ∙ pick_false _ _ (ne_eqb _ _ n)))
 
   -- two line ends
-  pub same_end : i < length sheet → j < length sheet → get_or sheet i 0 ≡ get_or sheet j 0 → get_or sheet i 0 ≡ 10
-      → true ≡ same_text (drop i sheet) (drop j sheet)
+  pub same_end : a ≡ b → a ≡ 10 → true ≡ same_text left right
   unfolding same_text
-  same_end h k e n =
-      rw (drop_below sheet i h, drop_below sheet j k)
-      (sym (pick_true _ _ (eq-eqb _ _ e) ∙ pick_true _ _ (eq-eqb _ _ n)))
+  same_end e n = rw (l, r) (sym (pick_true _ _ (eq-eqb _ _ e) ∙ pick_true _ _ (eq-eqb _ _ n)))
 
   -- two bytes
-  pub same_other : i < length sheet → j < length sheet → (get_or sheet i 0 ≡ get_or sheet j 0 → ⊥)
-      → false ≡ same_text (drop i sheet) (drop j sheet)
+  pub same_other : (a ≡ b → ⊥) → false ≡ same_text left right
   unfolding same_text
-  same_other h k n =
-      rw (drop_below sheet i h, drop_below sheet j k) (sym (pick_false _ _ (ne_eqb _ _ n)))
+  same_other n = rw (l, r) (sym (pick_false _ _ (ne_eqb _ _ n)))
 
-  -- one of the lines is over without an end
-  pub same_right : i < length sheet → length sheet ≤ j → false ≡ same_text (drop i sheet) (drop j sheet)
-  unfolding same_text
-  same_right h k = rw (drop_below sheet i h, drop_past sheet j k)
+cons_some : {a : ℕ} {l : List ℕ} → a ∷ l ≡ [] → ⊥
+cons_some h = let z : ◌≡◌ {A = ℕ} 0 1 = cc in omega arith
 
-  pub same_left : length sheet ≤ i → false ≡ same_text (drop i sheet) (drop j sheet)
-  unfolding same_text
-  same_left h = rw (drop_past sheet i h)
+-- one of the lines is over without an end
+pub same_over : (one other : List ℕ) → (one ≡ []) ⊎ (other ≡ []) → false ≡ same_text one other
+unfolding same_text
+same_over [] other e = refl
+same_over (a ∷ one) [] e = refl
+same_over (a ∷ one) (b ∷ other) e = ⊎_elim (λ h. absurd (cons_some h)) (λ h. absurd (cons_some h)) e
 
-module _ (sheet places : List ℕ) (at i n : ℕ) (l : n ≤ length places) where
-  -- the name is not that at place i: the later places decide
-  pub new_on : i < n → same_text (drop (get_or places i 0) sheet) (drop at sheet) ≡ false
-      → is_new sheet (text_of places (i + 1) n) at ≡ is_new sheet (text_of places i n) at
-  unfolding is_new
-  new_on h e = rw (text_on places i n h l) (sym (pick_false _ _ e))
+not_or : (a b : Bool) {c : Bool} → not b ≡ c → not (a || b) ≡ pick a false c
+unfolding pick
+not_or true b e = refl
+not_or false b e = e
 
-  -- it is
-  pub new_not : i < n → same_text (drop (get_or places i 0) sheet) (drop at sheet) ≡ true
-      → false ≡ is_new sheet (text_of places i n) at
-  unfolding is_new
-  new_not h e = rw (text_on places i n h l) (sym (pick_true _ _ e))
+-- a name is new where no earlier line is the same
+new_any : (sheet earlier : List ℕ) (at : ℕ)
+    → not (list_any (λ place. same_text (drop place sheet) (drop at sheet)) earlier) ≡ is_new sheet earlier at
+unfolding is_new
+new_any sheet [] at = refl
+new_any sheet (place ∷ places) at = not_or (same_text (drop place sheet) (drop at sheet)) _ (new_any sheet places at)
 
-  -- no place is left
-  pub new_end : n ≤ i → true ≡ is_new sheet (text_of places i n) at
-  unfolding is_new
-  new_end h = rw (text_end places i n h l)
+-- the same of the answer to whether some earlier line is the same
+pub new_by : (sheet earlier : List ℕ) (at : ℕ) {r b : Bool}
+    → r ≡ list_any (λ place. same_text (drop place sheet) (drop at sheet)) earlier → r ≡ b
+    → is_new sheet earlier at ≡ not b
+new_by sheet earlier at e n = sym (new_any sheet earlier at) ∙ ap not (sym e ∙ n)
+
+-- the same of the answer to whether a part of the sheet is a name
+pub named_by : (sheet : List ℕ) (at end : ℕ) {r b : Bool} → line_end sheet at ≡ Some end
+    → r ≡ is_name (take (end - at) (drop at sheet)) → r ≡ b → is_name (text_of sheet at end) ≡ b
+named_by sheet at end l e n =
+    ap is_name (sym (text_slice sheet at end (line_from sheet at end l))) ∙ sym e ∙ n
 
 module _ (sheet earlier : List ℕ) (at line : ℕ) where
   -- no line
-  pub name_no_line : line_end sheet at ≡ Nowhere → fault (Sheet line) ≡ name_of sheet earlier at line
+  pub name_no_line : line_end sheet at ≡ None → fault (Sheet line) ≡ name_of sheet earlier at line
   unfolding name_of on_place
   name_no_line e = rw e
 
-  module _ (end : ℕ) (ends : line_end sheet at ≡ At end) where
+  module _ (end : ℕ) (ends : line_end sheet at ≡ Some end) where
     -- no name
     pub name_none : is_name (text_of sheet at end) ≡ false → fault (Sheet line) ≡ name_of sheet earlier at line
     unfolding name_of on_place both

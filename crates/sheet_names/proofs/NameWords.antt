@@ -3,8 +3,8 @@
 use mathlib.Core.Bool.{Bool, true, false}
 use mathlib.Core.List.{List}
 use mathlib.Core.Logic.{◌⊎◌, inl, inr, ⊎_elim}
-use mathlib.Core.Path.{◌≡◌, refl, sym, subst, ◌∙◌}
-use Prim.Native.Nat.{ℕ}
+use mathlib.Core.Path.{◌≡◌, refl, sym, subst}
+use Prim.Native.Nat.{ℕ, ◌-◌}
 use native.Mathlib.Omega.{arith}
 use borrow.Author.Tests.{eqb-true, eq-eqb}
 use lib.Dec.{eqb}
@@ -15,7 +15,7 @@ use Rattle.sheet_lines.specs.Bytes.{within, text_of, every}
 use Rattle.sheet_lines.specs.IsLine.{IsLine}
 use Rattle.sheet_names.specs.IsName.{Between, NameByte, IsNameLine}
 use Rattle.sheet_names.specs.Name.{either, is_name_byte, is_name}
-use Rattle.sheet_names.proofs.NameSteps.{name_fits}
+use Rattle.parsimony.specs.Test.{both}
 
 either_cases : (a b : Bool) → either a b ≡ true → (a ≡ true) ⊎ (b ≡ true)
 unfolding either
@@ -80,8 +80,9 @@ name_line_told sheet at end line e =
     }
 
 pub name_line_found : (sheet : List ℕ) (at end : ℕ) → IsNameLine sheet at end → is_name (text_of sheet at end) ≡ true
+unfolding is_name both
 name_line_found sheet at end name =
     let inside = name.line.inside in
-    sym (name_fits sheet at end (omega arith) name.size.0 name.size.1)
-    ∙ every_found is_name_byte sheet end (omega arith) at
-    (λ k low high. name_byte_found (get_or sheet k 0) (name.letters k low high))
+    rw (text_length sheet at end (omega arith), ← within_yes 1 32 (end - at) name.size.0 name.size.1)
+    (every_found is_name_byte sheet end (omega arith) at
+    (λ k low high. name_byte_found (get_or sheet k 0) (name.letters k low high)))

@@ -7,6 +7,7 @@ use Prim.Native.Nat.{ℕ, ◌+◌, ◌<◌, ◌≤◌}
 use native.Mathlib.Omega.{arith}
 use lib.ListN.{length, get_or, take, drop}
 use lib.Seq.{length-take-le, get_or-take}
+use Rattle.std.proofs.Common.{Result, Ok, Err}
 use Rattle.sheet_lines.proofs.Answers.{no_item}
 use Rattle.sheet_lines.proofs.CountLaws.{count_read}
 use Rattle.sheet_lines.proofs.CountingLaws.{counting_read}
@@ -18,11 +19,8 @@ use Rattle.sheet_lines.specs.Count.{count_of}
 use Rattle.sheet_lines.specs.Counting.{GivesCount}
 use Rattle.sheet_lines.specs.IsLine.{IsLine}
 use Rattle.sheet_lines.specs.Section.{section}
-use Rattle.sheet_lines.specs.declared.Count.{Count}
-use Rattle.sheet_lines.specs.declared.Count.TheVariants.{Counted}
 use Rattle.sheet_lines.specs.declared.Fault.{Fault}
 use Rattle.sheet_lines.specs.declared.Fault.TheVariants.{Sheet}
-use Rattle.sheet_lines.specs.declared.Part.TheVariants.{Wrong}
 use Rattle.sheet_names.specs.IsName.{IsNameLine, SameLine, AllNames}
 use Rattle.sheet_names.specs.Name.{same_text}
 use Rattle.sheet_names.specs.Names.{name_of, names_of}
@@ -32,7 +30,7 @@ use Rattle.sheet_names.proofs.NameWords.{name_line_told, name_line_found}
 use Rattle.sheet_names.proofs.SameWords.{same_told, same_found, new_told, new_found}
 
 -- there are 1 to 512 names
-pub names_count : (sheet : List ℕ) (at line t next : ℕ) → (names_of sheet at line).count ≡ Counted t next
+pub names_count : (sheet : List ℕ) (at line t next : ℕ) → (names_of sheet at line).count ≡ Ok (t, next)
     → (1 ≤ t) × (t ≤ 512)
 unfolding names_of
 names_count sheet at line t next e =
@@ -41,8 +39,8 @@ names_count sheet at line t next e =
     (count.enough, count.small)
 
 -- so it is at most 512, where the section's reader answers with it
-pub names_few : (sheet : List ℕ) (at line : ℕ) {t next : ℕ} {answer : Count} {entry exit : List ℕ}
-    → GivesCount (names_of sheet at line) answer entry exit → answer ≡ Counted t next → t ≤ 512
+pub names_few : (sheet : List ℕ) (at line : ℕ) {t next : ℕ} {answer : Result (ℕ × ℕ) Fault} {entry exit : List ℕ}
+    → GivesCount (names_of sheet at line) answer entry exit → answer ≡ Ok (t, next) → t ≤ 512
 names_few sheet at line {t} {next} gives e = (names_count sheet at line t next (sym gives.said ∙ e)).1
 
 module _ (sheet : List ℕ) (n at line : ℕ) where
@@ -74,7 +72,7 @@ module _ (sheet : List ℕ) (n at line : ℕ) where
       }
 
 -- the section of the names, read: t names, all well formed and all different
-pub names_read : (sheet : List ℕ) (at line t next : ℕ) → (names_of sheet at line).count ≡ Counted t next
+pub names_read : (sheet : List ℕ) (at line t next : ℕ) → (names_of sheet at line).count ≡ Ok (t, next)
     → (length (names_of sheet at line).items ≡ t) × AllNames sheet (names_of sheet at line).items
 unfolding names_of
 names_read sheet at line t next e =
@@ -97,7 +95,7 @@ pub record FirstWrong (sheet names : List ℕ) (n line : ℕ) (f : Fault) : Type
       → ⊥
 
 -- the names, refused: the first line at fault is no name, or is an earlier one
-pub names_refused : (sheet : List ℕ) (n at line : ℕ) (f : Fault) → (section (name_of sheet) n at line []).part ≡ Wrong f
+pub names_refused : (sheet : List ℕ) (n at line : ℕ) (f : Fault) → (section (name_of sheet) n at line []).part ≡ Err f
     → FirstWrong sheet (section (name_of sheet) n at line []).items n line f
 names_refused sheet n at line f e =
     let failed = section_failed (name_of sheet) n at line line [] f (omega arith) e in

@@ -7,6 +7,7 @@ use Prim.Native.Nat.{ℕ, zero, suc, ◌+◌, ◌-◌, ◌<◌, ◌≤◌}
 use native.Mathlib.Nat.{add-zero}
 use native.Mathlib.Omega.{arith}
 use lib.ListN.{length, get_or, drop}
+use Rattle.sheet_lines.proofs.ByteLaws.{drop_below}
 use Rattle.sheet_lines.proofs.EveryLaws.{no_test}
 use Rattle.sheet_lines.specs.IsLine.{IsLine}
 use Rattle.sheet_names.specs.IsName.{SameLine}
@@ -66,8 +67,9 @@ same_step sheet a end b last one two e rest =
     (λ other.
     let h = open_yet sheet a end one other in
     let l = open_yet sheet b last two (λ ten. other (equal ∙ ten)) in
-    joined sheet a end b last h l equal (rest h l (same_on sheet a b inside₁ inside₂ equal other ∙ e))))
-    (λ unequal. no_test (same_other sheet a b inside₁ inside₂ unequal ∙ e))
+    joined sheet a end b last h l equal
+    (rest h l (same_on (drop_below sheet a inside₁) (drop_below sheet b inside₂) equal other ∙ e))))
+    (λ unequal. no_test (same_other (drop_below sheet a inside₁) (drop_below sheet b inside₂) unequal ∙ e))
   where
     inside₁ : a < length sheet
     inside₁ = omega (arith, one.from, one.inside)
@@ -108,13 +110,13 @@ found_step sheet a end b last one two same rest =
     let l : b < last = omega (arith, same.size) in
     let first : get_or sheet a 0 ≡ get_or sheet b 0 = rw (add-zero, add-zero) at (same.bytes 0 (omega arith)) in
     let plain = one.plain a (omega arith) h in
-    sym (same_on sheet a b inside₁ inside₂ first (λ ten. omega arith)) ∙ rest h l)
+    sym (same_on (drop_below sheet a inside₁) (drop_below sheet b inside₂) first (λ ten. omega arith)) ∙ rest h l)
     (λ h.
     let left : end ≡ a = omega (arith, one.from) in
     let right : last ≡ b = omega (arith, same.size, two.from) in
     let ten : get_or sheet a 0 ≡ 10 = subst (λ i. get_or sheet i 0 ≡ 10) left one.stop in
     let ten₂ : get_or sheet b 0 ≡ 10 = subst (λ i. get_or sheet i 0 ≡ 10) right two.stop in
-    sym (same_end sheet a b inside₁ inside₂ (ten ∙ sym ten₂) ten))
+    sym (same_end (drop_below sheet a inside₁) (drop_below sheet b inside₂) (ten ∙ sym ten₂) ten))
   where
     inside₁ : a < length sheet
     inside₁ = omega (arith, one.from, one.inside)

@@ -1,9 +1,8 @@
 -- The sheet up to its tree line: names, columns, costs and the count of trees, in this order.
 -- Assumes nothing.
-use Rattle.std.specs.Prelude.{List, [], ◌≡◌, ℕ, ◌+◌}
+use Rattle.std.specs.Prelude.{Result, Ok, Err, List, [], ◌≡◌, ℕ, ◌+◌}
 use Rattle.sheet_cells.specs.Cells.{matrix_of}
 use Rattle.sheet_cells.specs.declared.Matrix.{Matrix}
-use Rattle.sheet_cells.specs.declared.Matrix.TheVariants.{Cells, NoCells}
 use Rattle.sheet_costs.specs.Costs.{costs_of}
 use Rattle.sheet_lines.specs.Bytes.{bytes}
 use Rattle.sheet_lines.specs.Count.{count_of}
@@ -11,12 +10,11 @@ use Rattle.sheet_lines.specs.Counting.{on_count}
 use Rattle.sheet_lines.specs.Section.{wrote}
 use Rattle.sheet_lines.specs.declared.Fault.{Fault}
 use Rattle.sheet_names.specs.Names.{names_of}
-use Rattle.sheet_sections.specs.declared.Reading.{Reading}
-use Rattle.sheet_sections.specs.declared.Reading.TheVariants.{Sound, Faulty}
+use Rattle.sheet_sections.specs.declared.Sections.{Sections}
 
 -- what the sheet from some section on gives: the answer, and the rows of its cost table up to the first fault
 pub record Rest : Type 0 where
-  pub reading : Reading
+  pub reading : Result Sections Fault
   pub costs : List (List ℕ)
 
 -- what a sheet up to its tree line gives: the places of its names up to the first fault, and the rest
@@ -26,12 +24,12 @@ pub record SheetParts : Type 0 where
 
 -- a fault, after some rows of the cost table
 unfoldable pub refused : List (List ℕ) → Fault → Rest
-refused costs fault = record { reading = Faulty fault; costs = costs }
+refused costs fault = record { reading = Err fault; costs = costs }
 
 -- what follows from the cells, or from a fault
-unfoldable pub on_matrix {ℓ} : {A : Type ℓ} → Matrix → (Fault → A) → (ℕ → ℕ → ℕ → A) → A
-on_matrix (Cells c cells next) bad go = go c cells next
-on_matrix (NoCells fault) bad go = bad fault
+unfoldable pub on_matrix {ℓ} : {A : Type ℓ} → Result Matrix Fault → (Fault → A) → (ℕ → ℕ → ℕ → A) → A
+on_matrix (Ok m) bad go = go m.columns m.cells m.next
+on_matrix (Err fault) bad go = bad fault
 
 -- the count of trees, after t names, c columns with their first cell at a place, and a cost table of the count k
 unfoldable pub tree_from : List ℕ → List (List ℕ) → ℕ → ℕ → ℕ → ℕ → ℕ → Rest
@@ -39,7 +37,7 @@ unfolding bytes count_of on_count refused
 tree_from sheet costs t c cells k at =
     on_count (count_of (bytes "tree ") 1 1 sheet at (t + t + 4 + k)) (refused costs)
     (λ one tree. record {
-      reading = Sound (record { tips = t; columns = c; cells = cells; tree = tree; line = t + t + 5 + k });
+      reading = Ok (record { tips = t; columns = c; cells = cells; tree = tree; line = t + t + 5 + k });
       costs = costs;
     })
 
@@ -65,12 +63,12 @@ sheet_of sheet =
     }
 
 -- what the reader from some section on gives: the answer, and the table that it fills
-pub record GivesRest (given : Rest) (answer : Reading) (table table₁ : List (List ℕ)) : Type 0 where
+pub record GivesRest (given : Rest) (answer : Result Sections Fault) (table table₁ : List (List ℕ)) : Type 0 where
   pub said : answer ≡ given.reading
   pub priced : table₁ ≡ wrote given.costs table
 
 -- what the reader of a sheet up to its tree line gives: the names' places that it fills in, and the rest
-pub record GivesSections (given : SheetParts) (answer : Reading) (names names₁ : List ℕ)
+pub record GivesSections (given : SheetParts) (answer : Result Sections Fault) (names names₁ : List ℕ)
     (table table₁ : List (List ℕ)) : Type 0 where
   pub rest : GivesRest given.rest answer table table₁
   pub named : names₁ ≡ wrote given.names names

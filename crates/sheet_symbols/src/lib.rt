@@ -6,13 +6,6 @@ ghost use Rattle.sheet_symbols.specs.Symbol.{symbol_of};
 
 use parsimony::Cell;
 
-// What a byte stands for: a set of states, bit 0 for A, 1 for C, 2 for G, 3 for T; or it is not in the code list.
-#[derive(Clone, Copy)]
-pub enum Symbol {
-    States(Cell),
-    Unlisted,
-}
-
 // The set of states of each byte; 0, which is no set of a cell, where the byte is not in the code list.
 const TABLE: [Cell; 256] = [
     0, // byte 0
@@ -123,19 +116,11 @@ const TABLE: [Cell; 256] = [
     0, 0, 0, 0, 0, 0, 0, 0, 0, 0, 0, 0, 0, 0, 0,
 ];
 
-fn wide(byte: u8) -> usize
-    ensures { result ≡ byte }
-{
-    byte as usize
-}
-
-// What the byte stands for.
-pub fn symbol_of(byte: u8) -> Symbol
+// What the byte stands for: a set of states, bit 0 for A, 1 for C, 2 for G, 3 for T; none where it is not in the code
+// list.
+pub fn symbol_of(byte: u8) -> Option<Cell>
     ensures { result ≡ symbol_of byte }
 {
-    let set = TABLE[wide(byte)];
-    if set == 0 {
-        return Symbol::Unlisted;
-    }
-    Symbol::States(set)
+    let set = TABLE[usize::from(byte)];
+    if set == 0 { None } else { Some(set) }
 }

@@ -1,13 +1,13 @@
 -- What the readers of tree text answer, and what they leave in the lists.
 -- Assumes nothing.
-use Rattle.std.specs.Prelude.{List, ◌≡◌, ℕ, ◌+◌, ◌*◌, ◌≤◌, length}
+use Rattle.std.specs.Prelude.{Option, Some, None, List, ◌≡◌, ℕ, ◌+◌, ◌*◌, ◌≤◌, length}
 use Rattle.std.proofs.lemmas.List.Edits.{sets}
+use Rattle.std.specs.Option.{option_map}
+use Rattle.sheet_tips.specs.declared.Nodes.{Nodes}
 use Rattle.sheet_tips.specs.Marks.{IsMarks, met}
 use Rattle.sheet_tips.specs.Nodes.{lefts, rights}
 use Rattle.sheet_tips.specs.Tip.{Parsed, got, no_tree}
 use Rattle.sheet_tips.specs.Vine.{Vine, vine_nodes}
-use Rattle.sheet_tips.specs.declared.Subtree.{Subtree}
-use Rattle.sheet_tips.specs.declared.Subtree.TheVariants.{Tree, NoTree}
 
 -- a subtree may be read after n nodes: t names are at hand, left and right have room for all nodes, and n is at most
 -- twice the number of names that are marked as met
@@ -29,12 +29,22 @@ pub record Got (parsed : Parsed) (n : ℕ) (left right : List ℕ) (next m : ℕ
   pub rights : right' ≡ sets right n (rights vine n)
 
 -- a reader of tree text answers with the tree that is parsed, or with no tree where none is parsed
-abbrev pub GivesSubtreeFor : Parsed → ℕ → List ℕ → List ℕ → Subtree → List ℕ → List ℕ → List ℕ → Type 0
-GivesSubtreeFor parsed n left right (Tree next m) left' right' marks' =
+abbrev pub GivesSubtreeFor : Parsed → ℕ → List ℕ → List ℕ → Option (ℕ × ℕ) → List ℕ → List ℕ → List ℕ → Type 0
+GivesSubtreeFor parsed n left right (Some (next, m)) left' right' marks' =
     Got parsed n left right next m left' right' marks'
-GivesSubtreeFor parsed n left right NoTree left' right' marks' = parsed ≡ no_tree
+GivesSubtreeFor parsed n left right None left' right' marks' = parsed ≡ no_tree
 
 -- what a reader of tree text gives for what is parsed: the answer, and the lists, with the tree's nodes from n on
-pub record GivesSubtree (parsed : Parsed) (n : ℕ) (left right : List ℕ) (answer : Subtree)
+pub record GivesSubtree (parsed : Parsed) (n : ℕ) (left right : List ℕ) (answer : Option (ℕ × ℕ))
     (left' right' marks' : List ℕ) : Type 0 where
   pub gives : GivesSubtreeFor parsed n left right answer left' right' marks'
+
+-- the same of the names at hand and the nodes that are made so far
+abbrev pub RoomForNames : List ℕ → Nodes → Type 0
+RoomForNames names nodes = RoomForSubtree names (length names) nodes.made nodes.left nodes.right nodes.marks
+
+-- the same of a reader that makes nodes, and answers with the place after a tree
+abbrev pub GivesPlace : Parsed → Nodes → Option ℕ → Nodes → Type 0
+GivesPlace parsed before answer after =
+    GivesSubtree parsed before.made before.left before.right (option_map (λ next. (next, after.made)) answer)
+    after.left after.right after.marks

@@ -10,10 +10,10 @@ use native.Mathlib.Omega.{arith}
 use borrow.Author.Tests.{eq-eqb, ne_eqb, lt-ltb, le-ltb}
 use lib.Dec.{ltb}
 use lib.ListN.{length, get_or}
+use Rattle.std.proofs.Common.{Some}
 use Rattle.parsimony.specs.Test.{pick}
 use Rattle.parsimony.proofs.Order.{by_lt, pick_true, pick_false, at_same}
 use Rattle.sheet_lines.specs.Bytes.{text_of, every}
-use Rattle.sheet_lines.specs.declared.Place.TheVariants.{At}
 use Rattle.sheet_lines.proofs.ByteLaws.{both_parts, text_on}
 use Rattle.sheet_names.specs.Name.{is_name_byte}
 use Rattle.sheet_tips.specs.Marks.{is_marked, marked, IsMarks}
@@ -122,7 +122,7 @@ end_byte = refl
 true_false : {b : Bool} → b ≡ true → b ≡ false → ⊥
 true_false e f = let z : ◌≡◌ {A = ℕ} 0 1 = cc in omega arith
 
-at_place : {q r : ℕ} → At q ≡ At r → q ≡ r
+at_place : {q r : ℕ} → Some q ≡ Some r → q ≡ r
 at_place e = cc
 
 unmarked_row : (marks : List ℕ) (r : ℕ) → get_or marks r 0 ≡ 0 → is_marked marks r ≡ false

@@ -9,13 +9,12 @@ use borrow.Author.Tests.{eqb-true, eq-eqb}
 use lib.Dec.{eqb}
 use lib.ListN.{length, get_or, drop}
 use lib.Seq.{get_or-append-add, get_or-drop}
+use Rattle.std.proofs.Common.{Option, Some, None}
 use Rattle.parsimony.specs.Test.{pick}
 use Rattle.parsimony.proofs.Order.{by_lt, pick_true, pick_false}
 use Rattle.sheet_lines.specs.Bytes.{text_of, every}
 use Rattle.sheet_lines.specs.Count.{on_place}
 use Rattle.sheet_lines.specs.Word.{word_in, word_of}
-use Rattle.sheet_lines.specs.declared.Place.{Place}
-use Rattle.sheet_lines.specs.declared.Place.TheVariants.{At, Nowhere}
 use Rattle.sheet_lines.proofs.ByteLaws.{both_parts, text_on, text_end, every_on}
 use Rattle.sheet_names.specs.Name.{is_name_byte}
 use Rattle.sheet_tips.specs.Token.{token_end, is_line_of, row_named}
@@ -36,7 +35,7 @@ use Rattle.sheet_tips.proofs.TokenLaws.{
 use Rattle.sheet_tree.specs.Denotes.{IsName, Different}
 
 -- where a word is found, the bytes begin with it
-word_begins : (word bytes : List ℕ) (i stop : ℕ) → word_in word bytes i ≡ At stop
+word_begins : (word bytes : List ℕ) (i stop : ℕ) → word_in word bytes i ≡ Some stop
     → (rest : List ℕ) × (bytes ≡ word ++ rest) × (stop ≡ i + length word)
 unfolding word_in
 word_begins [] bytes i stop h = (bytes, refl, let e = place_same h in omega arith)
@@ -44,23 +43,23 @@ word_begins (letter ∷ word) [] i stop h = absurd (nowhere_at h)
 word_begins (letter ∷ word) (byte ∷ bytes) i stop h =
     go (eqb byte letter) refl h (λ g. word_begins word bytes (i + 1) stop g)
   where
-    go : (b : Bool) → eqb byte letter ≡ b → pick b (word_in word bytes (i + 1)) Nowhere ≡ At stop
-        → (word_in word bytes (i + 1) ≡ At stop
+    go : (b : Bool) → eqb byte letter ≡ b → pick b (word_in word bytes (i + 1)) None ≡ Some stop
+        → (word_in word bytes (i + 1) ≡ Some stop
         → (rest : List ℕ) × (bytes ≡ word ++ rest) × (stop ≡ i + 1 + length word))
         → (rest : List ℕ) × (byte ∷ bytes ≡ letter ∷ (word ++ rest)) × (stop ≡ i + suc (length word))
     go true y g more =
-        let (rest, same, place) = more (sym (pick_true (word_in word bytes (i + 1)) Nowhere refl) ∙ g) in
+        let (rest, same, place) = more (sym (pick_true (word_in word bytes (i + 1)) None refl) ∙ g) in
         (rest, ap₂ ◌∷◌ (eqb-true byte letter y) same, omega arith)
-    go false y g more = absurd (nowhere_at (sym (pick_false (word_in word bytes (i + 1)) Nowhere refl) ∙ g))
+    go false y g more = absurd (nowhere_at (sym (pick_false (word_in word bytes (i + 1)) None refl) ∙ g))
 
 -- and where they begin with it, it is found
-word_found : (word rest : List ℕ) (i : ℕ) → word_in word (word ++ rest) i ≡ At (i + length word)
+word_found : (word rest : List ℕ) (i : ℕ) → word_in word (word ++ rest) i ≡ Some (i + length word)
 unfolding word_in
-word_found [] rest i = let same : i ≡ i + 0 = omega arith in ap At same
+word_found [] rest i = let same : i ≡ i + 0 = omega arith in ap Some same
 word_found (letter ∷ word) rest i =
     pick_true _ _ (eq-eqb letter letter refl)
     ∙ word_found word rest (i + 1)
-    ∙ (let same : i + 1 + length word ≡ i + suc (length word) = omega arith in ap At same)
+    ∙ (let same : i + 1 + length word ≡ i + suc (length word) = omega arith in ap Some same)
 
 module _ (sheet : List ℕ) (i e place : ℕ) where
   -- the test of a line says that the line at a place is the text
@@ -73,11 +72,11 @@ module _ (sheet : List ℕ) (i e place : ℕ) where
       stop_is [] z = absurd (let y : ◌≡◌ {A = ℕ} 0 10 = z in omega arith)
       stop_is (byte ∷ after) z = (after, ap (λ b. b ∷ after) z)
 
-      go : (p : Place) → word_of (text_of sheet i e) sheet place ≡ p
+      go : (p : Option ℕ) → word_of (text_of sheet i e) sheet place ≡ p
           → on_place p false (λ stop. eqb (get_or sheet stop 0) 10) ≡ true
           → (after : List ℕ) × (drop place sheet ≡ text_of sheet i e ++ (10 ∷ after))
-      go Nowhere w g = absurd (let z : ◌≡◌ {A = ℕ} 0 1 = cc in omega arith)
-      go (At stop) w g =
+      go None w g = absurd (let z : ◌≡◌ {A = ℕ} 0 1 = cc in omega arith)
+      go (Some stop) w g =
           let (rest, same, at_stop) = word_begins (text_of sheet i e) (drop place sheet) place stop w in
           let byte = eqb-true (get_or sheet stop 0) 10 g in
           let first : get_or rest 0 0 ≡ 10 =
@@ -95,7 +94,7 @@ module _ (sheet : List ℕ) (i e place : ℕ) where
   line_is after same =
       let text = text_of sheet i e in
       let stop = place + length text in
-      let found : word_of text sheet place ≡ At stop =
+      let found : word_of text sheet place ≡ Some stop =
       ap (λ l. word_in text l place) same ∙ word_found text (10 ∷ after) place in
       let byte : get_or sheet stop 0 ≡ 10 =
       sym (get_or-drop place sheet (length text) 0)
@@ -147,7 +146,7 @@ module _ (sheet : List ℕ) where
       ∙ sym same
 
   module _ (names : List ℕ) (t i e : ℕ) (few : t ≤ length names) where
-    row_search : (d q r : ℕ) → t ≡ q + d → search_from sheet names t i e q ≡ At r
+    row_search : (d q r : ℕ) → t ≡ q + d → search_from sheet names t i e q ≡ Some r
         → (r < t) × (is_line_of sheet i e (get_or names r 0) ≡ true)
     row_search zero q r left h = absurd (nowhere_at (sym (search_none sheet names t i e q few (omega arith)) ∙ h))
     row_search (suc d) q r left h =
@@ -157,15 +156,17 @@ module _ (sheet : List ℕ) where
         (λ n. row_search d (q + 1) r (omega arith) (sym (search_more sheet names t i e q few (omega arith) n) ∙ h))
 
     -- the row that is found is one whose name is the text
-    pub row_told : (r : ℕ) → row_named sheet names t i e ≡ At r → (r < t) × (is_line_of sheet i e (get_or names r 0) ≡ true)
+    pub row_told : (r : ℕ) → row_named sheet names t i e ≡ Some r
+        → (r < t) × (is_line_of sheet i e (get_or names r 0) ≡ true)
     row_told r h = row_search t 0 r (omega arith) (search_begin sheet names t i e ∙ h)
 
     row_sought : (d q r : ℕ) → r ≡ q + d → r < t → is_line_of sheet i e (get_or names r 0) ≡ true
-        → ((p : ℕ) → p < t → is_line_of sheet i e (get_or names p 0) ≡ true → p ≡ r) → search_from sheet names t i e q ≡ At r
+        → ((p : ℕ) → p < t → is_line_of sheet i e (get_or names p 0) ≡ true → p ≡ r)
+        → search_from sheet names t i e q ≡ Some r
     row_sought zero q r same low y only =
         let here : q ≡ r = omega arith in
         search_found sheet names t i e q few (omega arith) (ap (λ k. is_line_of sheet i e (get_or names k 0)) here ∙ y)
-        ∙ ap At here
+        ∙ ap Some here
     row_sought (suc d) q r same low y only =
         by_test (is_line_of sheet i e (get_or names q 0))
         (λ z. absurd (let e = only q (omega arith) z in omega arith))
@@ -173,12 +174,13 @@ module _ (sheet : List ℕ) where
 
     -- and where one row's name alone is the text, it is found
     pub named_row_is : (r : ℕ) → r < t → is_line_of sheet i e (get_or names r 0) ≡ true
-        → ((p : ℕ) → p < t → is_line_of sheet i e (get_or names p 0) ≡ true → p ≡ r) → row_named sheet names t i e ≡ At r
+        → ((p : ℕ) → p < t → is_line_of sheet i e (get_or names p 0) ≡ true → p ≡ r)
+        → row_named sheet names t i e ≡ Some r
     named_row_is r low y only = sym (search_begin sheet names t i e) ∙ row_sought r 0 r (omega arith) low y only
 
   -- the name that is read at a place is a name by the grammar
   pub name_read : (names : List ℕ) (t i r : ℕ) → t ≤ length names → (token_end sheet i ≡ i → ⊥)
-      → row_named sheet names t i (token_end sheet i) ≡ At r → IsName sheet names t r i (token_end sheet i)
+      → row_named sheet names t i (token_end sheet i) ≡ Some r → IsName sheet names t r i (token_end sheet i)
   name_read names t i r few some found =
       let e = token_end sheet i in
       let inside = token_within sheet i some in
@@ -201,7 +203,7 @@ module _ (sheet : List ℕ) where
   -- and a name by the grammar, with no byte of a name after it, is read so
   pub name_reads : (names : List ℕ) (t i e r : ℕ) → t ≤ length names → Different sheet names t
       → IsName sheet names t r i e → is_name_byte (get_or sheet e 0) ≡ false
-      → (token_end sheet i ≡ e) × (row_named sheet names t i e ≡ At r)
+      → (token_end sheet i ≡ e) × (row_named sheet names t i e ≡ Some r)
   name_reads names t i e r few different is stop =
       let from = is.some in
       let inside = is.inside in

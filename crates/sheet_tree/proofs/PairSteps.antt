@@ -10,13 +10,13 @@ use borrow.Author.Tests.{eqb-true}
 use lib.Dec.{eqb}
 use lib.ListN.{length, get_or, set, length-append, get_or-eq_default}
 use lib.Seq.{sets, length-sets}
+use Rattle.std.proofs.Common.{Option, Some, None}
 use Rattle.parsimony.proofs.Order.{by_lt, pick_true, pick_false}
 use Rattle.sheet_tips.specs.Nodes.{lefts, rights}
 use Rattle.sheet_tips.specs.Tip.{Parsed, got, no_tree, tip_of}
 use Rattle.sheet_tips.specs.Reading.{RoomForSubtree, Got, GivesSubtreeFor, GivesSubtree}
+use Rattle.std.specs.Option.{option_map}
 use Rattle.sheet_tips.specs.Vine.{Vine, tip, pair, vine_nodes}
-use Rattle.sheet_tips.specs.declared.Subtree.{Subtree}
-use Rattle.sheet_tips.specs.declared.Subtree.TheVariants.{Tree, NoTree}
 use Rattle.sheet_tips.proofs.MarkLaws.{met_few}
 use Rattle.sheet_tree.specs.Parse.{on_parsed, on_byte, pair_by, tree_by, pair_of, tree_of}
 use Rattle.sheet_tree.proofs.SizeLaws.{tree_of_sized}
@@ -29,19 +29,34 @@ byte_inside sheet i byte some y =
     let e = eqb-true (get_or sheet i 0) byte y in omega arith))
 
 -- an answer by its case
-pub gives_tree : {p : Parsed} {n : ℕ} {left right : List ℕ} {answer : Subtree} {left' right' marks' : List ℕ} (k a : ℕ)
-    → GivesSubtree p n left right answer left' right' marks' → answer ≡ Tree k a
+pub gives_tree : {p : Parsed} {n : ℕ} {left right : List ℕ} {answer : Option (ℕ × ℕ)} {left' right' marks' : List ℕ}
+    (k a : ℕ)
+    → GivesSubtree p n left right answer left' right' marks' → answer ≡ Some (k, a)
     → Got p n left right k a left' right' marks'
 gives_tree {p} {n} {left} {right} {answer} {left'} {right'} {marks'} k a g e =
     subst (λ s. GivesSubtreeFor p n left right s left' right' marks') e g.gives
 
-pub gives_none : {p : Parsed} {n : ℕ} {left right : List ℕ} {answer : Subtree} {left' right' marks' : List ℕ}
-    → GivesSubtree p n left right answer left' right' marks' → answer ≡ NoTree → p ≡ no_tree
+pub gives_none : {p : Parsed} {n : ℕ} {left right : List ℕ} {answer : Option (ℕ × ℕ)} {left' right' marks' : List ℕ}
+    → GivesSubtree p n left right answer left' right' marks' → answer ≡ None → p ≡ no_tree
 gives_none {p} {n} {left} {right} {answer} {left'} {right'} {marks'} g e =
     subst (λ s. GivesSubtreeFor p n left right s left' right' marks') e g.gives
 
+-- the same of a reader that answers with the place, and leaves m nodes
+pub gives_place : {p : Parsed} {n : ℕ} {left right : List ℕ} {answer : Option ℕ} {left' right' marks' : List ℕ}
+    (k m : ℕ)
+    → GivesSubtree p n left right (option_map (λ next. (next, m)) answer) left' right' marks' → answer ≡ Some k
+    → Got p n left right k m left' right' marks'
+gives_place k m g e = gives_tree k m g (ap (option_map (λ next. (next, m))) e)
+
+pub gives_no_place : {p : Parsed} {n : ℕ} {left right : List ℕ} {answer : Option ℕ} {left' right' marks' : List ℕ}
+    (m : ℕ)
+    → GivesSubtree p n left right (option_map (λ next. (next, m)) answer) left' right' marks' → answer ≡ None
+    → p ≡ no_tree
+gives_no_place m g e = gives_none g (ap (option_map (λ next. (next, m))) e)
+
 -- an answer for the same text
-pub gives_same : {p q : Parsed} {n : ℕ} {left right : List ℕ} {answer : Subtree} {left' right' marks' : List ℕ} → q ≡ p
+pub gives_same : {p q : Parsed} {n : ℕ} {left right : List ℕ} {answer : Option (ℕ × ℕ)}
+    {left' right' marks' : List ℕ} → q ≡ p
     → GivesSubtree q n left right answer left' right' marks' → GivesSubtree p n left right answer left' right' marks'
 gives_same {p} {q} {n} {left} {right} {answer} {left'} {right'} {marks'} e g =
     subst (λ r. GivesSubtree r n left right answer left' right' marks') e g
@@ -209,12 +224,12 @@ module _ (sheet names : List ℕ) (t depth n : ℕ) (left right marks : List ℕ
         (omega arith, omega arith, omega arith, omega arith)
 
     -- the two trees and the pair's own node
-    pub pair_got : (parsed : Parsed) (x y e : ℕ) (left₃ right₃ marks₃ : List ℕ)
-        → parsed ≡ got (pair one.vine two.vine) e marks₂
+    pub pair_got : (parsed : Parsed) (x y e m : ℕ) (left₃ right₃ marks₃ : List ℕ)
+        → parsed ≡ got (pair one.vine two.vine) e marks₂ → m ≡ b + 1
         → x ≡ a - 1 → y ≡ b - 1 → left₃ ≡ set left₂ b x → right₃ ≡ set right₂ b y → marks₃ ≡ marks₂
-        → Got parsed n left right e (b + 1) left₃ right₃ marks₃
+        → Got parsed n left right e m left₃ right₃ marks₃
     unfolding lefts rights vine_nodes
-    pair_got parsed x y e left₃ right₃ marks₃ is ex ey el er em =
+    pair_got parsed x y e m left₃ right₃ marks₃ is more ex ey el er em =
         let p = one.count in
         let q = two.count in
         let la = lefts_long one.vine n in

@@ -10,11 +10,10 @@ use native.Mathlib.Omega.{arith}
 use borrow.Author.Tests.{eqb-true, eqb-false}
 use lib.Dec.{eqb}
 use lib.ListN.{length, get_or}
+use Rattle.std.proofs.Common.{Option, Some, None}
 use Rattle.parsimony.specs.Test.{pick}
 use Rattle.parsimony.proofs.Order.{pick_true, pick_false}
 use Rattle.sheet_lines.specs.Count.{on_place}
-use Rattle.sheet_lines.specs.declared.Place.{Place}
-use Rattle.sheet_lines.specs.declared.Place.TheVariants.{At, Nowhere}
 use Rattle.sheet_tips.specs.Marks.{is_marked, marked, met, IsMarks}
 use Rattle.sheet_tips.specs.Tip.{Parsed, got, no_tree, tip_of}
 use Rattle.sheet_tips.specs.Token.{token_end, row_named}
@@ -50,7 +49,7 @@ pub record TipFrom (sheet names : List ℕ) (t : ℕ) (marks : List ℕ) (i : �
     (marks' : List ℕ) : Type 0 where
   pub row : ℕ
   pub some : token_end sheet i ≡ i → ⊥
-  pub found : row_named sheet names t i (token_end sheet i) ≡ At row
+  pub found : row_named sheet names t i (token_end sheet i) ≡ Some row
   pub free : is_marked marks row ≡ false
   pub is : vine ≡ tip row
   pub after : e ≡ token_end sheet i
@@ -67,7 +66,7 @@ tip_from sheet names t marks i vine e marks' h = token (eqb (token_end sheet i) 
     end : ℕ
     end = token_end sheet i
 
-    mark : (r : ℕ) → row_named sheet names t i end ≡ At r → (token_end sheet i ≡ i → ⊥) → (b : Bool)
+    mark : (r : ℕ) → row_named sheet names t i end ≡ Some r → (token_end sheet i ≡ i → ⊥) → (b : Bool)
         → is_marked marks r ≡ b → pick b no_tree (got (tip r) end (marked marks r)) ≡ got vine e marks'
         → TipFrom sheet names t marks i vine e marks'
     mark r found some true y g = absurd (none_got (sym (pick_true no_tree (got (tip r) end (marked marks r)) refl) ∙ g))
@@ -75,11 +74,11 @@ tip_from sheet names t marks i vine e marks' h = token (eqb (token_end sheet i) 
         let (v, f, m) = got_same (sym (pick_false no_tree (got (tip r) end (marked marks r)) refl) ∙ g) in
         record { row = r; some = some; found = found; free = y; is = sym v; after = sym f; noted = sym m }
 
-    place : (p : Place) → row_named sheet names t i end ≡ p → (token_end sheet i ≡ i → ⊥)
+    place : (p : Option ℕ) → row_named sheet names t i end ≡ p → (token_end sheet i ≡ i → ⊥)
         → on_place p no_tree (λ r. pick (is_marked marks r) no_tree (got (tip r) end (marked marks r))) ≡ got vine e marks'
         → TipFrom sheet names t marks i vine e marks'
-    place (At r) found some g = mark r found some (is_marked marks r) refl g
-    place Nowhere found some g = absurd (none_got g)
+    place (Some r) found some g = mark r found some (is_marked marks r) refl g
+    place None found some g = absurd (none_got g)
 
     some : Parsed
     some =

@@ -63,11 +63,3 @@ impl States {
         self.0 >> x & 1 == 1
     }
 }
-
-// A number as the set of states that it is.
-pub fn cell_of(set: usize) -> Cell
-    requires { set < 2 ^ cell_bits }
-    ensures { result ≡ set }
-{
-    set as Cell
-}

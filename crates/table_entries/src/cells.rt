@@ -12,13 +12,7 @@ pub fn cells_fit(s: usize, t: usize, c: usize, cells: &[Cell]) -> bool
     requires { (s ≤ most_states) × (t ≤ 1023) }
     ensures { Tells (CellRules s t c cells.now) result }
 {
-    if MOST_COLUMNS < c {
-        return false;
-    }
-    if cells.len() != t * c {
-        return false;
-    }
-    all_within(cells, 1, last_set(s))
+    c <= MOST_COLUMNS && cells.len() == t * c && all_within(cells, 1, last_set(s))
 }
 
 // The last set of states below s: bits 0 to s-1.

@@ -13,19 +13,11 @@ use parsimony::{MOST_COST, MOST_STATES};
 pub fn costs_fit(s: usize, costs: &[u16]) -> bool
     ensures { Tells (CostRules s costs.now) result }
 {
-    if s < 2 {
-        return false;
-    }
-    if MOST_STATES < s {
-        return false;
-    }
-    if costs.len() != s * s {
-        return false;
-    }
-    if !all_within(costs, 0, MOST_COST) {
-        return false;
-    }
-    diagonal_free(s, costs)
+    2 <= s
+        && s <= MOST_STATES
+        && costs.len() == s * s
+        && all_within(costs, 0, MOST_COST)
+        && diagonal_free(s, costs)
 }
 
 // The costs of s states are 0 on the diagonal.
@@ -33,12 +25,10 @@ fn diagonal_free(s: usize, costs: &[u16]) -> bool
     requires { length costs.now ≡ s * s }
     ensures { Tells ((x : ℕ) → x < s → get_or costs.now (x * s + x) 0 ≡ 0) result }
 {
-    let mut state = 0;
-    while state < s {
-        if costs[state * s + state] != 0 {
+    for x in 0..s {
+        if costs[x * s + x] != 0 {
             return false;
         }
-        state += 1;
     }
     true
 }
@@ -48,12 +38,10 @@ pub fn unit_costs(s: usize, costs: &[u16]) -> bool
     requires { CostRules s costs.now }
     ensures { Tells (UnitCosts s (cost_at s costs.now)) result }
 {
-    let mut x = 0;
-    while x < s {
+    for x in 0..s {
         if !unit_row(s, costs, x) {
             return false;
         }
-        x += 1;
     }
     true
 }
@@ -63,22 +51,10 @@ fn unit_row(s: usize, costs: &[u16], x: usize) -> bool
     requires { (x < s) × (length costs.now ≡ s * s) }
     ensures { Tells ((y : ℕ) → y < s → cost_at s costs.now x y ≡ pick (eqb x y) 0 1) result }
 {
-    let mut y = 0;
-    while y < s {
-        if costs[x * s + y] != unit_cost(x, y) {
+    for y in 0..s {
+        if costs[x * s + y] != u16::from(x != y) {
             return false;
         }
-        y += 1;
     }
     true
-}
-
-// The unit cost of a change from x to y.
-fn unit_cost(x: usize, y: usize) -> u16
-    ensures { result ≡ pick (eqb x y) 0 1 }
-{
-    if x == y {
-        return 0;
-    }
-    1
 }

@@ -9,24 +9,11 @@ pub(crate) fn all_within(list: &[u16], least: u16, most: u16) -> bool
         → (least ≤ get_or list.now i 0) × (get_or list.now i 0 ≤ most))
         result }
 {
-    let mut lowest: u16 = 65535;
-    let mut highest: u16 = 0;
-    let mut i = 0;
-    while i < list.len() {
-        let e = list[i];
-        if e < lowest {
-            lowest = e;
-        }
-        if highest < e {
-            highest = e;
-        }
-        i += 1;
+    let mut lowest = u16::MAX;
+    let mut highest = u16::MIN;
+    for &e in list {
+        lowest = lowest.min(e);
+        highest = highest.max(e);
     }
-    if lowest < least {
-        return false;
-    }
-    if most < highest {
-        return false;
-    }
-    true
+    least <= lowest && highest <= most
 }

@@ -18,13 +18,7 @@ pub fn handed_fit(s: usize, c: usize, h: usize, entries: &[u32]) -> bool
     ensures { Tells (HandedRules s c h entries.now) result }
 {
     let rows = c * h;
-    if entries.len() != rows * s {
-        return false;
-    }
-    if !all_handed(entries) {
-        return false;
-    }
-    rows_open(entries, rows, s)
+    entries.len() == rows * s && all_handed(entries) && rows_open(entries, rows, s)
 }
 
 // Every entry is at most 1,020,978 or barred.
@@ -34,27 +28,7 @@ fn all_handed(entries: &[u32]) -> bool
         → (get_or entries.now i 0 ≤ most_handed) ⊎ (get_or entries.now i 0 ≡ barred))
         result }
 {
-    let mut i = 0;
-    while i < entries.len() {
-        if !handed_entry(entries[i]) {
-            return false;
-        }
-        i += 1;
-    }
-    true
-}
-
-// An entry is at most 1,020,978 or barred.
-fn handed_entry(e: u32) -> bool
-    ensures { Tells ((e ≤ most_handed) ⊎ (e ≡ barred)) result }
-{
-    if e <= MOST_HANDED {
-        return true;
-    }
-    if e == BARRED {
-        return true;
-    }
-    false
+    entries.iter().all(|e| *e <= MOST_HANDED || *e == BARRED)
 }
 
 // Each of n rows of s entries has an entry that is not barred.
@@ -64,27 +38,17 @@ fn rows_open(entries: &[u32], n: usize, s: usize) -> bool
         ((i : ℕ) → i < n → (x : ℕ) × (x < s) × (get_or entries.now (i * s + x) 0 ≡ barred → ⊥))
         result }
 {
-    let mut i = 0;
-    while i < n {
-        if !row_open(entries, i * s, s) {
+    for i in 0..n {
+        if !row_open(&entries[i * s..i * s + s]) {
             return false;
         }
-        i += 1;
     }
     true
 }
 
-// Of the s entries from at on, one is not barred.
-fn row_open(entries: &[u32], at: usize, s: usize) -> bool
-    requires { at + s ≤ length entries.now }
-    ensures { Tells ((x : ℕ) × (x < s) × (get_or entries.now (at + x) 0 ≡ barred → ⊥)) result }
+// One of the row's entries is not barred.
+fn row_open(row: &[u32]) -> bool
+    ensures { Tells ((x : ℕ) × (x < length row.now) × (get_or row.now x 0 ≡ barred → ⊥)) result }
 {
-    let mut x = 0;
-    while x < s {
-        if entries[at + x] != BARRED {
-            return true;
-        }
-        x += 1;
-    }
-    false
+    row.iter().any(|e| *e != BARRED)
 }

@@ -1,75 +1,47 @@
 // The tests 1 to 5, in their order: what every call asks of its table.
 #![tactic(auto)]
 
-ghost use Rattle.std.specs.Prelude.{List, ℕ};
-ghost use Rattle.promises.specs.CallRules.{matrix_rules, table_rules};
-ghost use Rattle.promises.specs.Input.{entered, entered_with};
-ghost use Rattle.table_tests.specs.Tested.{Tests};
+ghost use Rattle.promises.specs.CallRules.{table_rules};
+ghost use Rattle.promises.specs.Input.{input_of};
+ghost use Rattle.table_tests.specs.Tested.{MatrixTests, Tests};
 
-use parsimony::Cell;
-use promises::Refusal;
+use promises::{Refusal, Sound, Table};
 use table_entries::cells::cells_fit;
 use table_entries::costs::costs_fit;
 use table_handed::handed_fit;
 use tree_nodes::nodes::size_fits;
-use tree_test::{Tree, check_tree};
+use tree_test::check_tree;
 
-// What tests answer: all are passed, by a table with so many handed tips; or a refusal is given.
-#[derive(Clone, Copy)]
-pub enum Tested {
-    Passed(usize),
-    Refused(Refusal),
-}
-
-// SIZE, SHAPE, COSTS and CELLS, whatever the handed entries are.
-pub fn matrix_tests(
-    left: &[u16],
-    right: &[u16],
-    s: usize,
-    costs: &[u16],
-    c: usize,
-    cells: &[Cell],
-) -> Tested
-    ensures { (handed : List ℕ) → Tests (matrix_rules (entered_with left right s costs c cells handed))
-        (entered_with left right s costs c cells handed) result }
+// SIZE, SHAPE, COSTS and CELLS, whatever the handed entries are: the number of handed tips.
+pub fn matrix_tests(table: &Table) -> Result<usize, Refusal>
+    ensures { MatrixTests (input_of table.now) result }
 {
-    if !size_fits(left, right) {
-        return Tested::Refused(Refusal::Size);
+    if !size_fits(table) {
+        return Err(Refusal::Size);
     }
-    match check_tree(left, right) {
-        Tree::FaultAt(v) => Tested::Refused(Refusal::Shape(v)),
-        Tree::Legal(t, h) => {
-            if !costs_fit(s, costs) {
-                return Tested::Refused(Refusal::Costs);
-            }
-            if !cells_fit(s, t, c, cells) {
-                return Tested::Refused(Refusal::Cells);
-            }
-            Tested::Passed(h)
-        }
+    let tips = match check_tree(table) {
+        Ok(tips) => tips,
+        Err(v) => return Err(Refusal::Shape(v)),
+    };
+    if !costs_fit(table.s, table.costs) {
+        return Err(Refusal::Costs);
     }
+    if !cells_fit(table.s, tips.symbol, table.c, table.cells) {
+        return Err(Refusal::Cells);
+    }
+    Ok(tips.handed)
 }
 
 // SIZE to ROWS.
-pub fn table_tests(
-    left: &[u16],
-    right: &[u16],
-    s: usize,
-    costs: &[u16],
-    c: usize,
-    cells: &[Cell],
-    handed: &[u32],
-) -> Tested
-    ensures { Tests (table_rules (entered left right s costs c cells handed))
-        (entered left right s costs c cells handed) result }
+pub fn table_tests<'a>(table: &Table<'a>) -> Result<Sound<'a>, Refusal>
+    ensures { Tests (table_rules (input_of table.now)) (input_of table.now) result }
 {
-    match matrix_tests(left, right, s, costs, c, cells) {
-        Tested::Refused(r) => Tested::Refused(r),
-        Tested::Passed(h) => {
-            if !handed_fit(s, c, h, handed) {
-                return Tested::Refused(Refusal::Rows);
-            }
-            Tested::Passed(h)
-        }
+    let handed_tips = matrix_tests(table)?;
+    if !handed_fit(table.s, table.c, handed_tips, table.handed) {
+        return Err(Refusal::Rows);
     }
+    Ok(Sound {
+        table: *table,
+        handed_tips,
+    })
 }

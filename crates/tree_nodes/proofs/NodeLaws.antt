@@ -1,10 +1,10 @@
 -- Whether a node is a tip, as a number, and the count of the tips at one node more.
 -- Assumes nothing.
-use mathlib.Core.Bool.{Bool, true, false}
+use Rattle.std.specs.Prelude.{Bool, true, false, not, ◌&&◌}
+use Rattle.std.specs.Int.{from_bool}
 use mathlib.Core.List.{List}
 use mathlib.Core.Path.{◌≡◌, refl, ap, ◌∙◌}
 use Prim.Native.Nat.{ℕ, ◌+◌, ◌-◌, ◌*◌, ◌≤◌}
-use native.Mathlib.Nat.{mul-le-mul}
 use native.Mathlib.Numerals.{add-one}
 use native.Mathlib.Omega.{arith}
 use lib.Dec.{eqb, ltb}
@@ -15,39 +15,25 @@ use Rattle.parsimony.specs.Test.{pick}
 use Rattle.parsimony.proofs.Sums.{sum_suc, sum_zero, sum_le, sum_scale}
 use Rattle.parsimony.proofs.TipLaws.{sum_ones}
 
--- a test as a number is at most 1, and so is a product of such numbers
-pub unit_le : (b : Bool) → pick b 1 0 ≤ 1
-unfolding pick
-unit_le true = omega arith
-unit_le false = omega arith
+-- the two tests of the entries of node v: both hold at a symbol tip, the first alone at a handed tip
+pub tip_entries : (left right : List ℕ) (v : ℕ)
+    → (from_bool (eqb (get_or left v 0) 65535 && ltb (get_or right v 0) 32768) ≡ is_tip symbol (node_at left right v))
+    × (from_bool (eqb (get_or left v 0) 65535 && not (ltb (get_or right v 0) 32768))
+    ≡ is_tip handed (node_at left right v))
+unfolding node_at leaf_at pick
+tip_entries left right v = by_tests (eqb (get_or left v 0) 65535) (ltb (get_or right v 0) 32768)
+  where
+    by : Bool → Bool → Node
+    by b d =
+        pick b (pick d (leaf symbol (get_or right v 0)) (leaf handed (get_or right v 0 - 32768)))
+        (inner (get_or left v 0) (get_or right v 0))
 
-pub units_le : (a b : ℕ) → a ≤ 1 → b ≤ 1 → a * b ≤ 1
-units_le a b h k = mul-le-mul h k
-
-module _ (left right : List ℕ) (v : ℕ) where
-  -- the two tests of the node's entries as numbers: their product says whether it is a symbol tip or a handed tip
-  abbrev is_leaf : ℕ
-  is_leaf = pick (eqb (get_or left v 0) 65535) 1 0
-
-  abbrev is_low : ℕ
-  is_low = pick (ltb (get_or right v 0) 32768) 1 0
-
-  pub tip_entries : (is_leaf * is_low ≡ is_tip symbol (node_at left right v))
-      × (is_leaf * (1 - is_low) ≡ is_tip handed (node_at left right v))
-  unfolding node_at leaf_at pick
-  tip_entries = by_tests (eqb (get_or left v 0) 65535) (ltb (get_or right v 0) 32768)
-    where
-      by : Bool → Bool → Node
-      by b d =
-          pick b (pick d (leaf symbol (get_or right v 0)) (leaf handed (get_or right v 0 - 32768)))
-          (inner (get_or left v 0) (get_or right v 0))
-
-      by_tests : (b d : Bool) → (pick b 1 0 * pick d 1 0 ≡ is_tip symbol (by b d))
-          × (pick b 1 0 * (1 - pick d 1 0) ≡ is_tip handed (by b d))
-      by_tests true true = (refl, refl)
-      by_tests true false = (refl, refl)
-      by_tests false true = (refl, refl)
-      by_tests false false = (refl, refl)
+    by_tests : (b d : Bool) → (from_bool (b && d) ≡ is_tip symbol (by b d))
+        × (from_bool (b && not d) ≡ is_tip handed (by b d))
+    by_tests true true = (refl, refl)
+    by_tests true false = (refl, refl)
+    by_tests false true = (refl, refl)
+    by_tests false false = (refl, refl)
 
 -- a sum over one number more
 pub sum_next : (f : ℕ → ℕ) (v : ℕ) → sum f (v + 1) ≡ sum f v + f v

@@ -10,7 +10,8 @@ use Rattle.parsimony.specs.Tree.{Kids, Has, Rooted}
 use Rattle.parsimony.specs.Written.{Written, Below}
 use Rattle.parsimony.proofs.Order.{by_eq, by_lt}
 use Rattle.parsimony.proofs.TreeLaws.{parent_unique, parent_has}
-use Rattle.walk_down.specs.Pass.{PassedOn, WalkedDown}
+use Rattle.choice_steps.specs.Marks.{WalkedDown}
+use Rattle.walk_down.specs.Pass.{PassedOn}
 
 -- The walk over n nodes, from node n - 1 to node v, in a list e in which the root had its start: the root still has it,
 -- and the children of each node from v on have their values.
@@ -78,12 +79,12 @@ module _ {n : ℕ} {kids : ℕ → Kids} {give : ℕ → ℕ → ℕ} {start v x
           ∙ d.right.edge h k c
           ∙ ap (give u) (sym (kept p (omega arith)))
 
-  -- where the start and every value given are below s, so is the value of node v - 1
-  pub descending_low : {s : ℕ} → start < s → ((u x : ℕ) → give u x < s) → x < s
-  descending_low {s} first gives =
+  -- what holds of the start and of every value given holds of the value of node v - 1
+  pub descending_keeps : (P : ℕ → Type 0) → P start → ((u x : ℕ) → P (give u x)) → P x
+  descending_keeps P first gives =
       by_lt (v - 1) (n - 1)
       (λ below. let (p, hp, c) = parent_has (n - 1) kids rooted (v - 1) below in
       let b = rooted.below hp c in
-      subst (λ m. m < s) (sym (own ∙ d.right.edge (omega arith) (omega arith) c)) (gives (v - 1) (get_or now p 0)))
+      subst P (sym (own ∙ d.right.edge (omega arith) (omega arith) c)) (gives (v - 1) (get_or now p 0)))
       (λ top. let e : v - 1 ≡ n - 1 = omega arith in
-      subst (λ m. m < s) (sym (own ∙ ap (λ q. get_or now q 0) e ∙ d.right.root)) first)
+      subst P (sym (own ∙ ap (λ q. get_or now q 0) e ∙ d.right.root)) first)

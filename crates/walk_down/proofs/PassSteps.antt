@@ -1,26 +1,30 @@
 -- Passing on: a tip passes nothing, an inner node a value to each of its children.
 -- Assumes nothing.
-use mathlib.Core.List.{List}
+use mathlib.Core.List.{List, map}
 use mathlib.Core.Logic.{inl, inr, ⊎_elim}
-use mathlib.Core.Path.{◌≡◌, refl, sym, ◌∙◌, subst}
-use Prim.Native.Nat.{ℕ, ◌*◌, ◌<◌}
+use mathlib.Core.Path.{◌≡◌, refl, sym, ap, ◌∙◌, subst}
+use Prim.Native.Nat.{ℕ, ◌+◌, ◌*◌, ◌<◌}
 use native.Mathlib.Omega.{arith}
 use lib.ListN.{length, get_or, set, length-set}
-use lib.Seq.{get_or-set_same, get_or-set_other}
+use lib.Seq.{get_or-set_same, get_or-set_other, map-set}
+use Rattle.std.proofs.Math.ListN.{get_or-map}
+use Rattle.std.proofs.lemmas.Grind.{get_or_default_zero}
+use Rattle.std.proofs.lemmas.List.{length-map}
 use Rattle.parsimony.specs.Allowed.{CostRules}
 use Rattle.parsimony.specs.Table.{Kind, Node, Legal, leaf, inner, kids_of, node_at}
 use Rattle.parsimony.proofs.LegalLaws.{legal_below}
 use Rattle.parsimony.proofs.Order.{by_eq}
-use Rattle.parsimony.proofs.TieLaws.{in_use}
-use Rattle.row_step.specs.Lane.{lane}
-use Rattle.walk_down.specs.Pass.{chosen, PassedOn}
+use Rattle.parsimony.specs.Column.{cost_at}
+use Rattle.parsimony.specs.Written.{entries}
+use Rattle.promises.specs.Input.{Input, Start}
+use Rattle.row_step.specs.Lane.{RowIs}
+use Rattle.choice_steps.specs.Marks.{Passing, MarkLaws}
+use Rattle.choice_steps.specs.Marks.{row_of, gives}
+use Rattle.walk_down.specs.Pass.{PassedOn}
 
--- a chosen state is a state
-pub chosen_low : {s : ℕ} {costs : List ℕ} → CostRules s costs → (rows : List ℕ) (u x : ℕ) → chosen s costs rows u x < s
-unfolding chosen
-chosen_low {s} {costs} rules rows u x =
-    let few = rules.fewest in
-    (in_use.ties s x (lane costs (x * s) rows (u * s)) (omega arith)).within
+-- a table has a state
+pub costs_state : {s : ℕ} {costs : List ℕ} → CostRules s costs → 0 < s
+costs_state rules = let fewest = rules.fewest in omega arith
 
 -- an inner node's children are nodes
 pub kids_inside : {left right : List ℕ} {v a b : ℕ} → Legal left right → v < length left → inner a b ≡ node_at left right v
@@ -54,3 +58,32 @@ passed_inner give a b x y z l e ha hb ey ez =
     at_a u ne e =
         get_or-set_other (set l a y) b u z 0 ne
         ∙ subst (λ k. get_or (set l a y) k 0 ≡ give k x) (sym e) (get_or-set_same l a y 0 ha ∙ ey)
+
+-- what a mark passes on by a child's row is what the child gets by its row among the rows
+pub passed_is : {Fits : ℕ → ℕ → Type 0} {free : (ℕ → ℕ) → ℕ → ℕ} {pass : Passing}
+    {May : Input → ℕ → Start → Type 0} {Output : Input → ℕ → Start → List ℕ → List ℕ → Type 0}
+    → MarkLaws Fits free pass May Output
+    → (I : Input) (rows row : List ℕ) (u x : ℕ) → 0 < I.s → length row ≡ I.s
+    → RowIs (λ y. get_or rows (u * I.s + y) 0) row
+    → pass I.s (cost_at I.s I.costs) (entries row) x ≡ gives pass I rows u x
+passed_is laws I rows row u x some size is =
+    laws.pass_same I.s (cost_at I.s I.costs) (entries row) (row_of I.s rows u) x some (λ y h. is y (omega arith))
+
+-- a list of marks as numbers, after one of them was written,
+pub mark_set : {M : Type 0} (number : M → ℕ) (marks : List M) (i : ℕ) (y : M)
+    → map number (set marks i y) ≡ set (map number marks) i (number y)
+mark_set number marks i y = map-set number marks i y
+
+-- and what is read of it
+pub mark_read : {M : Type 0} (number : M → ℕ) (marks : List M) (i : ℕ) (y : M) → i < length marks
+    → y ≡ get_or marks i y → number y ≡ get_or (map number marks) i 0
+mark_read number marks i y h is =
+    ap number is
+    ∙ sym (get_or-map number marks i y)
+    ∙ get_or_default_zero (map number marks) i (number y) (let long = length-map marks number in omega arith)
+
+-- a list of marks as numbers, after two of them were written
+pub numbers_set : {M : Type 0} (number : M → ℕ) (marks : List M) (a b : ℕ) (y z : M)
+    → set (set (map number marks) a (number y)) b (number z) ≡ map number (set (set marks a y) b z)
+numbers_set number marks a b y z =
+    ap (λ l. set l b (number z)) (sym (map-set number marks a y)) ∙ sym (map-set number (set marks a y) b z)

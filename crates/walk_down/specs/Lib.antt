@@ -1,3 +1,3 @@
--- What a node passes on to its children, and what the walk from the root down leaves.
+-- What a walk from the root down gives each node, over the definitions of `parsimony`.
 -- Assumes nothing.
 pub mod Pass

@@ -1,75 +1,47 @@
-// From the root down: the labels and the sets of a column, read off any rows in a row room.
+// From the root down: a state or a set of states for each node of a column, read off the rows.
 #![tactic(auto)]
 
-ghost use Rattle.std.specs.Prelude.{◌≡◌, ℕ, ◌*◌, ◌<◌, ◌≤◌, length};
-ghost use Rattle.parsimony.specs.Allowed.{CostRules};
-ghost use Rattle.parsimony.specs.Table.{Legal, kids_at};
-ghost use Rattle.row_step.specs.Lane.{Calm};
-ghost use Rattle.walk_down.specs.Pass.{chosen, settled, WalkedDown};
+ghost use Rattle.std.specs.Prelude.{◌≡◌, ◌<◌, ◌≤◌, length, map};
+ghost use Rattle.parsimony.specs.Table.{kids_at};
+ghost use Rattle.promises.specs.Input.{input_of, nodes};
+ghost use Rattle.choice_steps.specs.Marks.{gives, Walked};
+ghost use Rattle.walk_down.specs.Pass.{PassedOn};
 
-use parsimony::Cell;
-use pass::{narrow, pass_set, pass_state};
+use row_step::{Rows, costs_of};
+use tree_nodes::nodes::{Node, node_at};
 
-mod pass;
+mod marks;
 
-fn wide(x: u8) -> usize
-    ensures { result ≡ x }
+pub use marks::Mark;
+
+// Gives each child of node v, which has the mark, its own.
+fn pass_on<M: Mark>(rows: &Rows, v: usize, mark: M, marks: &mut [M])
+    requires node { (v < nodes (input_of rows.now.table)) × (nodes (input_of rows.now.table) ≤ length marks.old) }
+    requires fits { M.Fits rows.now.table.s (M.number mark) }
+    ensures { let I = input_of rows.now.table in
+        PassedOn (kids_at I.left I.right v) (gives M.passed I rows.now.entries.now) (M.number mark)
+        (map M.number marks.old) (map M.number marks.new) }
 {
-    x as usize
-}
-
-// The label of each node from a start for the root: each child by the choosing step.
-pub fn fill_states(
-    left: &[u16],
-    right: &[u16],
-    s: usize,
-    costs: &[u16],
-    rows: &[u32],
-    start: usize,
-    states: &mut [u8],
-)
-    requires legal { Legal left.now right.now }
-    requires cost_rules { CostRules s costs.now }
-    requires by_index { (v : ℕ) → v < length left.now → Calm rows.now (v * s) s }
-    requires start_lt_s { (start < s) × (length left.now ≤ length states.old) }
-    ensures { WalkedDown (length left.now) (kids_at left.now right.now)
-        (chosen s costs.now rows.now) start states.old states.new }
-{
-    let n = left.len();
-    let last = n - 1;
-    states[last] = narrow(start);
-    let mut v: usize = n;
-    while 0 < v {
-        v -= 1;
-        let x = wide(states[v]);
-        pass_state(left, right, s, costs, rows, v, x, states);
+    match node_at(&rows.table, v) {
+        Node::Symbol(_) | Node::Handed(_) => {}
+        Node::Inner(a, b) => {
+            let costs = costs_of(&rows.table);
+            marks[a] = mark.pass(&costs, rows.row(a));
+            marks[b] = mark.pass(&costs, rows.row(b));
+        }
     }
 }
 
-// The set of each node from a start set for the root: each child by the set step.
-pub fn fill_sets(
-    left: &[u16],
-    right: &[u16],
-    s: usize,
-    costs: &[u16],
-    rows: &[u32],
-    start: Cell,
-    sets: &mut [Cell],
-)
-    requires legal { Legal left.now right.now }
-    requires cost_rules { CostRules s costs.now }
-    requires by_index { (v : ℕ) → v < length left.now → Calm rows.now (v * s) s }
-    requires left_in_bounds { length left.now ≤ length sets.old }
-    ensures { WalkedDown (length left.now) (kids_at left.now right.now)
-        (settled s costs.now rows.now) start sets.old sets.new }
+// The mark of each node from a start for the root.
+pub fn fill<M: Mark>(rows: &Rows, start: M, marks: &mut [M])
+    requires room { nodes (input_of rows.now.table) ≤ length marks.old }
+    requires fits { M.Fits rows.now.table.s (M.number start) }
+    ensures { Walked M.passed (input_of rows.now.table) rows.now.entries.now (M.number start)
+        (map M.number marks.old) (map M.number marks.new) }
 {
-    let n = left.len();
-    let last = n - 1;
-    sets[last] = start;
-    let mut v = n;
-    while 0 < v {
-        v -= 1;
-        let w = sets[v];
-        pass_set(left, right, s, costs, rows, v, w, sets);
+    let n = rows.table.left.len();
+    marks[n - 1] = start;
+    for v in (0..n).rev() {
+        pass_on(rows, v, marks[v], marks);
     }
 }

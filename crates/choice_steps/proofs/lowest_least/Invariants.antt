@@ -1,13 +1,9 @@
--- `lowest_least` meets its contract. The loop's invariant: of the states below y the lowest is the lowest least.
--- The measure is what is left of the states.
+-- `lowest_least` meets its contract. The loop's invariant: of the states below y the lowest least is found.
 -- Assumes nothing.
-use Prim.Native.Nat.{◌-◌, ◌≤◌, ◌<◌}
+use Rattle.std.proofs.Common.{◌<◌, length}
+use Rattle.parsimony.specs.Written.{entries}
 use Rattle.row_step.proofs.LeastSteps.{Looked}
-use Rattle.row_step.specs.Lane.{entry_at}
 use Rattle.choice_steps.proofs.lowest_least.Given as goal
 
 abbrev pub invariant-loop-y : goal.invariant-loop-y
-invariant-loop-y l = (1 ≤ l.y) × (l.y ≤ l.s) × (l.lowest < l.y) × Looked (entry_at l.rows l.at) l.y l.lowest
-
-abbrev pub decreases-loop-y : goal.decreases-loop-y
-decreases-loop-y l = l.s - l.y
+invariant-loop-y l = (l.lowest < length l.row) × Looked (entries l.row) l.y l.lowest

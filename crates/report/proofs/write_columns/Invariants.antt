@@ -1,14 +1,12 @@
--- `write_columns` meets its contract. The invariant: the rooms keep their length, and next is within the columns. The
--- measure is the number of columns left.
+-- `write_columns` meets its contract: what is done, its next column and its total, is within the columns and their
+-- scores; it ends, since each page has a column more at least.
 -- Assumes nothing.
-use lib.ListN.{length}
-use Prim.Native.Nat.{◌≤◌, ◌-◌, ◌*◌}
-use mathlib.Core.Path.{◌≡◌}
+use Rattle.std.proofs.Common.{◌-◌, ◌*◌, ◌≤◌}
 use Rattle.report.proofs.write_columns.Given as goal
 
-abbrev pub invariant-loop-next : goal.invariant-loop-next
-invariant-loop-next l = (l.next ≤ l.s.columns) × (l.total ≤ l.next * 4294967295) × (length l.cells ≡ 512) × (length l.states ≡
-    1023) × (length l.sets ≡ 1023) × (length l.rows ≡ 4092) × (length l.line ≡ 1056) × (length l.page ≡ 65536)
+abbrev pub invariant-loop-done : goal.invariant-loop-done
+invariant-loop-done l =
+    record { inside : l.done.0 ≤ l.s.numbers.columns; few : l.done.1.0 ≤ l.done.0 * 4294967295 }
 
-abbrev pub decreases-loop-next : goal.decreases-loop-next
-decreases-loop-next l = l.s.columns - l.next
+abbrev pub decreases-loop-done : goal.decreases-loop-done
+decreases-loop-done l = l.s.numbers.columns - l.done.0

@@ -1,14 +1,11 @@
--- `inner_row` meets its contract. The loop's invariant: the entries of the states below x are written, and from is the
--- place of row x of the costs. The measure is what is left of the states.
+-- `inner_row` meets its contract. The loop's invariant: the entries of the states below x are written.
 -- Assumes nothing.
-use mathlib.Core.Path.{◌≡◌}
-use Prim.Native.Nat.{◌-◌, ◌*◌, ◌≤◌}
-use Rattle.row_step.specs.Lane.{join_at}
-use Rattle.parsimony.specs.Written.{Wrote}
+use Rattle.std.proofs.Common.{◌≡◌, ℕ, ◌<◌, get_or}
+use Rattle.parsimony.specs.Column.{cost_at}
+use Rattle.parsimony.specs.Written.{entries}
+use Rattle.row_step.specs.Lane.{join}
 use Rattle.row_step.proofs.inner_row.Given as goal
 
 abbrev pub invariant-loop-x : goal.invariant-loop-x
-invariant-loop-x l = (l.x ≤ l.s) × (l.from ≡ l.x * l.s) × Wrote l.at l.x (join_at l.costs l.s l.initial.rows l.a l.b) l.initial.rows l.rows
-
-abbrev pub decreases-loop-x : goal.decreases-loop-x
-decreases-loop-x l = l.s - l.x
+invariant-loop-x l = (y : ℕ) → y < l.x
+    → get_or l.row y 0 ≡ join (cost_at l.costs.s l.costs.list.now) l.costs.s (entries l.a) (entries l.b) y

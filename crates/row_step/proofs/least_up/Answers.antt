@@ -1,30 +1,24 @@
--- `least_up` meets its contract. The loop's invariant: the best is the least of the states below y.
--- The measure is what is left of the states.
+-- `least_up` meets its contract: the lowest of all sums is their least.
 -- Assumes nothing.
-use mathlib.Core.Path.{◌∙◌}
-use Prim.Native.Nat.{ℕ}
-use native.Mathlib.Omega.{arith}
-use Rattle.row_step.proofs.LeastSteps.{least_one, least_lower, least_other}
+use Rattle.std.proofs.Common.{ℕ, length, arith}
+use Rattle.parsimony.specs.Least.{low}
+use Rattle.parsimony.specs.Written.{entries}
+use Rattle.parsimony.proofs.Extremes.{extreme_none}
+use Rattle.parsimony.proofs.LeastLaws.{low_within, least_low, least_below}
 use Rattle.row_step.specs.Lane.{lane}
-use Rattle.row_step.proofs.least_up.Goals.{then-here-best, else-here-best}
+use Rattle.row_step.proofs.LaneLaws.{least_within, within_most}
 use Rattle.row_step.proofs.least_up.Goals as goal
 
 pub loop-y-init : goal.loop-y-init
-loop-y-init c = (
-  omega arith,
-  omega arith,
-  c.through-best.ensures
-      ∙ least_one (lane c.args.costs.now c.args.from c.args.rows.now c.args.at),
-)
+loop-y-init c =
+    extreme_none (within_most 1073742822 _ (omega arith) (least_within c.requires.cheap c.requires.calm c.requires.some))
 
-pub loop-y-preserved : goal.loop-y-preserved
-loop-y-preserved c =
-    let turn = c.loop-y in
-    let f : ℕ → ℕ = lane c.args.costs.now c.args.from c.args.rows.now c.args.at in
-    let y = turn.y in
-    let inv = turn.invariant in
-    let here = c.through-here.ensures in (
-      omega arith,
-      omega arith,
-      elim c.if-here-best.branch [ then-here-best w ↦ w.best-is ∙ here ∙ least_lower f y _ inv.2 (omega (arith, w.if-here-best.true)) | else-here-best w ↦ w.best-is ∙ least_other f y _ inv.2 (omega (arith, w.if-here-best.false)) ],
-    )
+pub returns : goal.returns
+returns c =
+    let f : ℕ → ℕ = lane (entries c.args.costs.now) (entries c.args.row.now) in
+    let s = length c.args.row.now in
+    let last = low_within f s c.requires.some in
+    let high = c.loop-y.invariant.every (low f s) (omega (arith, c.loop-y-test.false)) in
+    let there = c.loop-y.invariant.told (λ k h. least_below f s k (omega arith)) in
+    let e = least_low f s in
+    omega arith

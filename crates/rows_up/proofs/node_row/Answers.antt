@@ -1,114 +1,69 @@
--- `node_row` meets its contract. What the table says of node v gives the place of its cell, of its handed row or of its
--- children's rows, and the step that is called writes the node's row.
+-- `node_row` meets its contract: what the table says of node v gives its row, and the step that is called writes it.
 -- Assumes nothing.
-use Rattle.std.proofs.Common.{◌≡◌, ℕ, ◌+◌, ◌*◌, ◌<◌, ◌≤◌, length, sym, ap, ◌∙◌, arith}
-use Rattle.parsimony.specs.Table.{symbol, leaf}
-use Rattle.parsimony.proofs.ColumnLaws.{cell_place}
-use Rattle.parsimony.proofs.WrittenLaws.{wrote_same}
-use Rattle.promises.specs.CallRules.{Allowed}
-use Rattle.promises.specs.Input.{Input, nodes, node_in}
-use Rattle.tree_nodes.specs.NodeOf.{node_of}
-use Rattle.rows_up.proofs.PlaceLaws.{row_inside}
-use Rattle.rows_up.proofs.RowSteps.{symbol_row, handed_small, handed_in, handed_row, kids_calm, inner_row_lem}
+use Rattle.std.proofs.Common.{get_or, subst, ap, ap₂, sym, ◌∙◌, arith}
+use Rattle.parsimony.specs.Column.{cell_entry, cost_at}
+use Rattle.parsimony.specs.Written.{entries}
+use Rattle.parsimony.proofs.LegalLaws.{legal_below}
+use Rattle.parsimony.proofs.SliceLaws.{row_inside}
+use Rattle.promises.specs.Input.{input_of}
+use Rattle.promises.proofs.SoundLaws.{allowed_known}
+use Rattle.row_step.specs.Lane.{join}
+use Rattle.column_nodes.specs.Said.{Says}
+use Rattle.rows_up.proofs.RowSteps.{symbol_row, handed_row, child_row, child_calm, inner_row_lem}
 use Rattle.rows_up.proofs.node_row.Goals as goal
 
--- a node's row stands in the room
-room : (v n s long : ℕ) → (v < n) × (n * s ≤ long) → v * s + s ≤ long
-room v n s long there = let last = row_inside v n s there.0 in omega arith
+pub row_at-requires : goal.row_at-requires
+row_at-requires c =
+    let node = (subst (Says _ _ _) c.in-Inner.is c.column_node.ensures).said in
+    let kids = legal_below (allowed_known _ c.args.sound.now.allowed).legal c.requires.node.1 (sym node) in
+    let there = row_inside _ _ c.args.sound.now.table.s kids.0 in
+    omega (arith, c.requires.room.0)
 
--- a symbol tip's cell stands among the cells
-cell_there : (I : Input) (j v r : ℕ) → Allowed I → j < I.c → v < nodes I → leaf symbol r ≡ node_in I v
-    → r * I.c + j < length I.cells
-cell_there I j v r rules inside there is =
-    cell_place rules.legal v there I.c j r (length I.cells) rules.cells.count inside (sym is)
-
-pub overflow_mul-r : goal.overflow_mul-r
-overflow_mul-r c =
-    let at = cell_there _ _ _ _ c.requires.allowed c.requires.j_lt_c.0 c.requires.v_in_bounds.0
-    (sym (ap node_of c.in-Symbol.is) ∙ c.node_at.ensures) in
-    omega (arith, c.well_formed)
-
-pub overflow_add-r : goal.overflow_add-r
-overflow_add-r c =
-    let at = cell_there _ _ _ _ c.requires.allowed c.requires.j_lt_c.0 c.requires.v_in_bounds.0
-    (sym (ap node_of c.in-Symbol.is) ∙ c.node_at.ensures) in
-    omega (arith, c.well_formed)
-
-pub offset_bounds-cells-r : goal.offset_bounds-cells-r
-offset_bounds-cells-r c =
-    let at = cell_there _ _ _ _ c.requires.allowed c.requires.j_lt_c.0 c.requires.v_in_bounds.0
-    (sym (ap node_of c.in-Symbol.is) ∙ c.node_at.ensures) in
-    omega (arith, c.well_formed)
-
-pub bounds-cells-r : goal.bounds-cells-r
-bounds-cells-r c =
-    cell_there _ _ _ _ c.requires.allowed c.requires.j_lt_c.0 c.requires.v_in_bounds.0
-    (sym (ap node_of c.in-Symbol.is) ∙ c.node_at.ensures)
-
-pub overflow_add-j : goal.overflow_add-j
-overflow_add-j c =
-    let small = handed_small _ c.requires.allowed c.args.j c.requires.j_lt_c.0 c.args.v c.requires.v_in_bounds.0
-    c.args.h c.requires.j_lt_c.1 c.in-Handed.k (sym (ap node_of c.in-Handed.is) ∙ c.node_at.ensures) in
-    omega arith
-
-pub overflow_mul-j-in-Handed : goal.overflow_mul-j-in-Handed
-overflow_mul-j-in-Handed c =
-    let within = handed_in _ c.requires.allowed c.args.j c.requires.j_lt_c.0 c.args.v c.requires.v_in_bounds.0
-    c.args.h c.requires.j_lt_c.1 c.in-Handed.k (sym (ap node_of c.in-Handed.is) ∙ c.node_at.ensures) in
-    omega (arith, c.well_formed)
-
-pub copy_row-requires : goal.copy_row-requires
-copy_row-requires c = (
-  handed_in _ c.requires.allowed c.args.j c.requires.j_lt_c.0 c.args.v c.requires.v_in_bounds.0 c.args.h
-      c.requires.j_lt_c.1 c.in-Handed.k (sym (ap node_of c.in-Handed.is) ∙ c.node_at.ensures),
-  room _ _ _ _ c.requires.v_in_bounds,
-)
-
-pub overflow_mul-a : goal.overflow_mul-a
-overflow_mul-a c =
-    let kids = kids_calm _ c.requires.allowed c.args.j c.requires.j_lt_c.0 c.args.v c.requires.v_in_bounds.0
-    c.args.rows.now c.requires.v_in_bounds.1 c.requires.holds_rows c.in-Inner.a c.in-Inner.b
-    (sym (ap node_of c.in-Inner.is) ∙ c.node_at.ensures) in
-    let last = room _ _ _ _ c.requires.v_in_bounds in
-    omega (arith, c.well_formed)
-
-pub overflow_mul-b : goal.overflow_mul-b
-overflow_mul-b c =
-    let kids = kids_calm _ c.requires.allowed c.args.j c.requires.j_lt_c.0 c.args.v c.requires.v_in_bounds.0
-    c.args.rows.now c.requires.v_in_bounds.1 c.requires.holds_rows c.in-Inner.a c.in-Inner.b
-    (sym (ap node_of c.in-Inner.is) ∙ c.node_at.ensures) in
-    let last = room _ _ _ _ c.requires.v_in_bounds in
-    omega (arith, c.well_formed)
+pub row_at-requires-in-Inner : goal.row_at-requires-in-Inner
+row_at-requires-in-Inner c =
+    let node = (subst (Says _ _ _) c.in-Inner.is c.column_node.ensures).said in
+    let kids = legal_below (allowed_known _ c.args.sound.now.allowed).legal c.requires.node.1 (sym node) in
+    let there = row_inside _ _ c.args.sound.now.table.s kids.1 in
+    omega (arith, c.requires.room.0)
 
 pub inner_row-requires-clause-calm : goal.inner_row-requires-clause-calm
 inner_row-requires-clause-calm c =
-    let kids = kids_calm _ c.requires.allowed c.args.j c.requires.j_lt_c.0 c.args.v c.requires.v_in_bounds.0
-    c.args.rows.now c.requires.v_in_bounds.1 c.requires.holds_rows c.in-Inner.a c.in-Inner.b
-    (sym (ap node_of c.in-Inner.is) ∙ c.node_at.ensures) in
-    (kids.left_calm, kids.right_calm)
-
-pub inner_row-requires-clause-s_bound : goal.inner_row-requires-clause-s_bound
-inner_row-requires-clause-s_bound c =
-    let kids = kids_calm _ c.requires.allowed c.args.j c.requires.j_lt_c.0 c.args.v c.requires.v_in_bounds.0
-    c.args.rows.now c.requires.v_in_bounds.1 c.requires.holds_rows c.in-Inner.a c.in-Inner.b
-    (sym (ap node_of c.in-Inner.is) ∙ c.node_at.ensures) in
-    (kids.left_under, kids.right_under, room _ _ _ _ c.requires.v_in_bounds)
+    let I = input_of c.args.sound.now.table in
+    let rules = allowed_known _ c.args.sound.now.allowed in
+    let node = (subst (Says _ _ _) c.in-Inner.is c.column_node.ensures).said in
+    let kids = legal_below rules.legal c.requires.node.1 (sym node) in
+    let left = child_row I rules c.args.j c.requires.node.0 c.args.v c.requires.node.1 c.args.below.now _ _ c.requires.holds_rows kids.0 c.row_at.ensures.size c.row_at.ensures.row in
+    let right = child_row I rules c.args.j c.requires.node.0 c.args.v c.requires.node.1 c.args.below.now _ _ c.requires.holds_rows kids.1 c.row_at-in-Inner.ensures.size c.row_at-in-Inner.ensures.row in (
+      child_calm I rules c.args.j c.requires.node.0 c.args.v c.requires.node.1 _ _ kids.0 c.row_at.ensures.size left,
+      child_calm I rules c.args.j c.requires.node.0 c.args.v c.requires.node.1 _ _ kids.1 c.row_at-in-Inner.ensures.size right,
+    )
 
 pub returns-in-Symbol : goal.returns-in-Symbol
 returns-in-Symbol c =
-    wrote_same _ _ _ _ _ _ c.cell_row.ensures
-    (symbol_row _ c.requires.allowed c.args.j c.requires.j_lt_c.0 c.args.v c.requires.v_in_bounds.0
-    c.in-Symbol.r (sym (ap node_of c.in-Symbol.is) ∙ c.node_at.ensures))
+    let tip = (subst (Says _ _ _) c.in-Symbol.is c.column_node.ensures).said in
+    let I = input_of c.args.sound.now.table in
+    let rules = allowed_known _ c.args.sound.now.allowed in
+    λ x h. c.cell_row.ensures x h ∙ ap (λ w. cell_entry w x) tip.cell
+    ∙ symbol_row I rules c.args.j c.requires.node.0 c.args.v c.requires.node.1 tip.r tip.node x
 
 pub returns-in-Handed : goal.returns-in-Handed
 returns-in-Handed c =
-    wrote_same _ _ _ _ _ _ c.copy_row.ensures
-    (handed_row _ c.requires.allowed c.args.j c.requires.j_lt_c.0 c.args.v c.requires.v_in_bounds.0
-    c.args.h c.requires.j_lt_c.1 c.in-Handed.k (sym (ap node_of c.in-Handed.is) ∙ c.node_at.ensures))
+    let tip = (subst (Says _ _ _) c.in-Handed.is c.column_node.ensures).said in
+    let I = input_of c.args.sound.now.table in
+    let rules = allowed_known _ c.args.sound.now.allowed in
+    λ x h. ap (λ l. get_or l x 0) c.copy_from_slice.ensures.after ∙ tip.entries x (omega (arith, c.copy_from_slice.ensures.len, c.requires.room.1))
+    ∙ handed_row I rules c.args.j c.requires.node.0 c.args.v c.requires.node.1 tip.k tip.node x
 
 pub returns-in-Inner : goal.returns-in-Inner
 returns-in-Inner c =
-    wrote_same _ _ _ _ _ _ c.inner_row.ensures
-    (inner_row_lem _ c.requires.allowed c.args.j c.requires.j_lt_c.0 c.args.v c.requires.v_in_bounds.0
-    c.args.rows.now c.requires.v_in_bounds.1 c.requires.holds_rows c.in-Inner.a c.in-Inner.b
-    (sym (ap node_of c.in-Inner.is) ∙ c.node_at.ensures))
+    let I = input_of c.args.sound.now.table in
+    let rules = allowed_known _ c.args.sound.now.allowed in
+    let node = (subst (Says _ _ _) c.in-Inner.is c.column_node.ensures).said in
+    let kids = legal_below rules.legal c.requires.node.1 (sym node) in
+    let left = child_row I rules c.args.j c.requires.node.0 c.args.v c.requires.node.1 c.args.below.now _ _ c.requires.holds_rows kids.0 c.row_at.ensures.size c.row_at.ensures.row in
+    let right = child_row I rules c.args.j c.requires.node.0 c.args.v c.requires.node.1 c.args.below.now _ _ c.requires.holds_rows kids.1 c.row_at-in-Inner.ensures.size c.row_at-in-Inner.ensures.row in
+    λ x h. c.inner_row.ensures x h
+    ∙ ap₂ (λ s l. join (cost_at s l) s (entries c.row_at.result.now) (entries c.row_at-in-Inner.result.now) x)
+    c.costs_of-costs.ensures.0 c.costs_of-costs.ensures.1
+    ∙ inner_row_lem I rules c.args.j c.requires.node.0 c.args.v c.requires.node.1 _ _ node _ _ c.row_at.ensures.size
+    c.row_at-in-Inner.ensures.size left right x (omega (arith, c.inner_row.auto.row, c.requires.room.1))

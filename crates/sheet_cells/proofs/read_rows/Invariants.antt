@@ -1,12 +1,9 @@
--- `read_rows` meets its contract. The invariant: i rows are read. The measure is the number of rows left.
+-- `read_rows` meets its contract. The invariant: i rows are read.
 -- Assumes nothing.
-use Prim.Native.Nat.{◌-◌}
+use Prim.Native.Nat.{◌+◌}
 use Rattle.sheet_lines.proofs.Passing.{Passing}
 use Rattle.sheet_cells.specs.Cells.{row_judge}
 use Rattle.sheet_cells.proofs.read_rows.Given as goal
 
 abbrev pub invariant-loop-i : goal.invariant-loop-i
-invariant-loop-i l = Passing (row_judge l.c l.sheet) l.t l.at l.line l.i l.place l.number
-
-abbrev pub decreases-loop-i : goal.decreases-loop-i
-decreases-loop-i l = l.t - l.i
+invariant-loop-i l = Passing (row_judge l.c l.sheet) l.t l.at l.line l.i l.place (l.line + l.i)

@@ -1,30 +1,25 @@
--- `same_text` meets its contract. The invariant: the lines from i and j on decide.
--- The measure is what is left of the sheet after i.
+-- `same_text` meets its contract. The invariant: the bytes that are left decide.
 -- Assumes nothing.
 use mathlib.Core.Path.{◌∙◌}
-use Rattle.sheet_names.proofs.NameSteps.{same_on, same_end, same_other, same_right, same_left}
+use Rattle.std.proofs.lemmas.Slice.Zip.{either_empty_from_Zip}
+use Rattle.sheet_names.proofs.NameSteps.{same_on, same_end, same_other, same_over}
 use Rattle.sheet_names.proofs.same_text.Goals as goal
 
-pub returns-then-sheet-j : goal.returns-then-sheet-j
-returns-then-sheet-j c = same_right _ _ _ c.loop-i-test.true c.if-sheet-j.true ∙ c.loop-i.invariant
+pub returns-then-a-b : goal.returns-then-a-b
+returns-then-a-b c =
+    same_other c.in-Some.ensures.steps.0 c.in-Some.ensures.steps.1 c.if-a-b.true ∙ c.loop-a.invariant
 
-pub returns-then-sheet-i : goal.returns-then-sheet-i
-returns-then-sheet-i c =
-    same_other _ _ _ c.loop-i-test.true c.if-sheet-j.false
-    c.if-sheet-i.true
-    ∙ c.loop-i.invariant
+pub returns-then-a-eq-LINE_END : goal.returns-then-a-eq-LINE_END
+returns-then-a-eq-LINE_END c =
+    same_end c.in-Some.ensures.steps.0 c.in-Some.ensures.steps.1 c.if-a-b.false c.if-a-eq-LINE_END.true
+    ∙ c.loop-a.invariant
 
-pub returns-then-sheet-i-eq-LINE_END : goal.returns-then-sheet-i-eq-LINE_END
-returns-then-sheet-i-eq-LINE_END c =
-    same_end _ _ _ c.loop-i-test.true
-    c.if-sheet-j.false c.if-sheet-i.false c.if-sheet-i-eq-LINE_END.true
-    ∙ c.loop-i.invariant
-
-pub loop-i-preserved : goal.loop-i-preserved
-loop-i-preserved c =
-    same_on _ _ _ c.loop-i-test.true
-    c.if-sheet-j.false c.if-sheet-i.false c.if-sheet-i-eq-LINE_END.false
-    ∙ c.loop-i.invariant
+pub loop-a-preserved : goal.loop-a-preserved
+loop-a-preserved c =
+    same_on c.in-Some.ensures.steps.0 c.in-Some.ensures.steps.1 c.if-a-b.false c.if-a-eq-LINE_END.false
+    ∙ c.loop-a.invariant
 
 pub returns : goal.returns
-returns c = same_left _ _ c.loop-i.j c.loop-i-test.false ∙ c.loop-i.invariant
+returns c = same_over _ _
+    (either_empty_from_Zip c.loop-a.a-iterator c.next.new.self c.next.result c.in-None.is c.next.ensures.steps)
+    ∙ c.loop-a.invariant

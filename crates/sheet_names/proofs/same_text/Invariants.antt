@@ -1,14 +1,11 @@
--- `same_text` meets its contract. The invariant: the lines from i and j on decide.
--- The measure is what is left of the sheet after i.
+-- `same_text` meets its contract. The invariant: the bytes that are left decide.
 -- Assumes nothing.
 use mathlib.Core.Path.{◌≡◌}
-use Prim.Native.Nat.{◌-◌}
-use lib.ListN.{length, drop}
+use Rattle.std.specs.Iterator.Adapters.{zip_first, zip_second}
+use Rattle.std.specs.Slice.Iter.{iter_rest}
 use Rattle.sheet_names.specs.Name.{same_text}
 use Rattle.sheet_names.proofs.same_text.Given as goal
 
-abbrev pub invariant-loop-i : goal.invariant-loop-i
-invariant-loop-i l = same_text (drop l.i l.sheet) (drop l.j l.sheet) ≡ same_text (drop l.a l.sheet) (drop l.b l.sheet)
-
-abbrev pub decreases-loop-i : goal.decreases-loop-i
-decreases-loop-i l = length l.sheet - l.i
+abbrev pub invariant-loop-a : goal.invariant-loop-a
+invariant-loop-a l =
+    same_text (iter_rest (zip_first l.a-iterator)) (iter_rest (zip_second l.a-iterator)) ≡ same_text l.one l.other

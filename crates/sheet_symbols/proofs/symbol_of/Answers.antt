@@ -10,14 +10,12 @@ use Rattle.sheet_symbols.proofs.symbol_of.Goals as goal
 pub returns-then-set-eq0 : goal.returns-then-set-eq0
 unfolding table
 returns-then-set-eq0 c =
-    let entry =
-    table_at c.wide.result c.args.byte c.wide.ensures c.ranges.byte.fits in
+    let entry = table_at c.from.result c.args.byte c.from.ensures c.ranges.byte.fits in
     symbol_none _ (entry ∙ c.if-set-eq0.true)
 
 -- the entry is a set
-pub returns : goal.returns
+pub returns-else-set-eq0 : goal.returns-else-set-eq0
 unfolding table
-returns c =
-    let entry =
-    table_at c.wide.result c.args.byte c.wide.ensures c.ranges.byte.fits in
+returns-else-set-eq0 c =
+    let entry = table_at c.from.result c.args.byte c.from.ensures c.ranges.byte.fits in
     symbol_some _ _ entry c.if-set-eq0.false

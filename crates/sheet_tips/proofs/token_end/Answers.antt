@@ -1,20 +1,20 @@
--- `token_end` meets its contract. The invariant: the name ends where the bytes from i on end it.
--- The measure is what is left of the sheet.
+-- `token_end` meets its contract: the name ends at the first byte that may not stand in one.
 -- Assumes nothing.
-use Rattle.sheet_lines.proofs.ByteLaws.{test_yes, test_no}
-use Rattle.sheet_tips.proofs.TokenLaws.{token_more, token_stop, token_end_lem}
-use mathlib.Core.Path.{sym, ◌∙◌}
+use Prim.Native.Nat.{◌+◌}
+use mathlib.Core.Path.{ap, ◌∙◌}
+use native.Mathlib.Omega.{arith}
+use Rattle.std.proofs.Common.{⊎_elim}
+use Rattle.sheet_tips.proofs.TokenLaws.{token_length, token_small}
 use Rattle.sheet_tips.proofs.token_end.Goals as goal
 
-pub returns-then-not-name_byte : goal.returns-then-not-name_byte
-returns-then-not-name_byte c =
-    sym (c.loop-i.invariant ∙ token_stop _ _
-    c.loop-i-test.true (test_no c.name_byte.ensures c.if-not-name_byte.true-raw))
-
-pub loop-i-preserved : goal.loop-i-preserved
-loop-i-preserved c =
-    c.loop-i.invariant ∙ token_more _ _
-    c.loop-i-test.true (test_yes c.name_byte.ensures c.if-not-name_byte.false-raw)
+pub overflow_add-result : goal.overflow_add-result
+overflow_add-result c =
+    let e =
+    ap (λ k. c.args.at + k) c.unwrap_or.ensures
+    ∙ token_length _ _ _ c.rest_from-rest.ensures c.first_other.ensures in
+    ⊎_elim (λ h. omega (arith, e)) (λ h. omega (arith, e)) (token_small c.args.sheet.now c.args.at)
 
 pub returns : goal.returns
-returns c = sym (c.loop-i.invariant ∙ token_end_lem _ _ c.loop-i-test.false)
+returns c =
+    ap (λ k. c.args.at + k) c.unwrap_or.ensures
+    ∙ token_length _ _ _ c.rest_from-rest.ensures c.first_other.ensures

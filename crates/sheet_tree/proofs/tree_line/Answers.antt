@@ -10,59 +10,59 @@ use Rattle.sheet_tree.proofs.LineSteps.{
   line_got,
   line_nodes,
 }
-use Rattle.sheet_tree.proofs.PairSteps.{gives_tree, gives_none}
-use Rattle.sheet_lines.proofs.ByteLaws.{test_yes, test_no}
+use Rattle.sheet_tree.proofs.PairSteps.{gives_place, gives_no_place}
+use mathlib.Core.Path.{sym, ◌∙◌}
 use native.Mathlib.Omega.{arith}
 use Rattle.sheet_tree.proofs.tree_line.Goals as goal
 
 pub read_tree-requires : goal.read_tree-requires
 unfolding unmarked
-read_tree-requires c = start_ready _ _ _ _ c.requires.0 c.requires.1 c.requires.2 c.requires.3
+read_tree-requires c = start_ready _ _ _ _ c.requires (omega arith) c.told-left c.told-right
 
-pub returns-in_default : goal.returns-in_default
+pub returns-in_err-stop : goal.returns-in_err-stop
 unfolding unmarked
-returns-in_default c =
-    record {
-      gives = line_tree_none _ _ _ _ _ (gives_none c.read_tree.ensures c.in_default.is);
-    }
+returns-in_err-stop c =
+    rw c.from_residual.ensures
+    (record {
+      gives = line_tree_none _ _ _ _ _ (gives_no_place _ c.read_tree.ensures c.in_err-stop.was);
+    })
 
 pub returns-then-not-byte_is : goal.returns-then-not-byte_is
 unfolding unmarked
 returns-then-not-byte_is c =
     record {
-      gives = line_tree_stop _ _ _ _ _ _ _ _ _ _ _ _ (gives_tree _ _ c.read_tree.ensures c.in-Tree.is)
-          (test_no c.byte_is.ensures
-          c.if-not-byte_is.true-raw);
+      gives = line_tree_stop _ _ _ _ _ _ _ _ _ _ _ _ (gives_place _ _ c.read_tree.ensures c.in_ok-stop.was)
+          (sym c.byte_is.ensures ∙ c.if-not-byte_is.true);
     }
 
 pub returns-then-stop-end : goal.returns-then-stop-end
 unfolding unmarked
 returns-then-stop-end c =
     record {
-      gives = line_after _ _ _ _ _ _ _ _ _ _ _ _ (gives_tree _ _ c.read_tree.ensures c.in-Tree.is)
-          (test_yes c.byte_is.ensures c.if-not-byte_is.false-raw) c.if-stop-end.true;
+      gives = line_after _ _ _ _ _ _ _ _ _ _ _ _ (gives_place _ _ c.read_tree.ensures c.in_ok-stop.was)
+          (sym c.byte_is.ensures ∙ c.if-not-byte_is.false) c.if-stop-end.true;
     }
 
-pub overflow_add-n : goal.overflow_add-n
+pub overflow_add-nodes : goal.overflow_add-nodes
 unfolding unmarked
-overflow_add-n c =
+overflow_add-nodes c =
     record {
       fits = let n = line_nodes _ _ _ _ c.args.end _ _ _ _ _ _ _
-          (gives_tree _ _ c.read_tree.ensures c.in-Tree.is) c.requires.0 c.requires.1 in omega arith;
+          (gives_place _ _ c.read_tree.ensures c.in_ok-stop.was) c.requires (omega arith) in omega arith;
     }
 
-pub returns-then-n-t : goal.returns-then-n-t
+pub returns-then-nodes-names : goal.returns-then-nodes-names
 unfolding unmarked
-returns-then-n-t c =
+returns-then-nodes-names c =
     record {
-      gives = line_missing _ _ _ _ _ _ _ _ _ _ _ _ (gives_tree _ _ c.read_tree.ensures c.in-Tree.is)
-          (test_yes c.byte_is.ensures c.if-not-byte_is.false-raw) c.if-stop-end.false c.if-n-t.true;
+      gives = line_missing _ _ _ _ _ _ _ _ _ _ _ _ (gives_place _ _ c.read_tree.ensures c.in_ok-stop.was)
+          (sym c.byte_is.ensures ∙ c.if-not-byte_is.false) c.if-stop-end.false c.if-nodes-names.true;
     }
 
 pub returns : goal.returns
 unfolding unmarked
 returns c =
     record {
-      gives = line_got _ _ _ _ _ _ _ _ _ _ _ _ (gives_tree _ _ c.read_tree.ensures c.in-Tree.is)
-          (test_yes c.byte_is.ensures c.if-not-byte_is.false-raw) c.if-stop-end.false c.if-n-t.false;
+      gives = line_got _ _ _ _ _ _ _ _ _ _ _ _ (gives_place _ _ c.read_tree.ensures c.in_ok-stop.was)
+          (sym c.byte_is.ensures ∙ c.if-not-byte_is.false) c.if-stop-end.false c.if-nodes-names.false;
     }

@@ -1,5 +1,4 @@
--- `rows_open` meets its contract. The loop's invariant: each row before i has an entry that is not barred. The measure
--- is the number of rows left.
+-- `rows_open` meets its contract. The loop's invariant: each row before i has an entry that is not barred.
 -- Assumes nothing.
 use mathlib.Core.Path.{◌≡◌}
 use Prim.Native.Nat.{ℕ, ◌+◌, ◌*◌, ◌-◌, ◌<◌}
@@ -9,6 +8,3 @@ use Rattle.table_handed.proofs.rows_open.Given as goal
 
 abbrev pub invariant-loop-i : goal.invariant-loop-i
 invariant-loop-i l = (k : ℕ) → k < l.i → (x : ℕ) × (x < l.s) × (get_or l.entries (k * l.s + x) 0 ≡ barred → ⊥)
-
-abbrev pub decreases-loop-i : goal.decreases-loop-i
-decreases-loop-i l = l.n - l.i

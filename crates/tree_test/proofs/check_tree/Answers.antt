@@ -9,12 +9,12 @@ use Rattle.tree_test.proofs.check_tree.Goals as goal
 pub walk-broken-requires-clause-marked : goal.walk-broken-requires-clause-marked
 walk-broken-requires-clause-marked c = marked_none _ _ _ _ counted_zeros counted_zeros counted_zeros
 
-pub returns-then-fault-left : goal.returns-then-fault-left
-returns-then-fault-left c =
+pub returns : goal.returns
+returns c =
     record {
       found = record {
         rules = found_none c.requires.most c.note_children.ensures c.walk-broken.ensures.first_not
-            c.first_unused-fault.ensures c.if-fault-left.true;
+            c.first_unused-fault.ensures c.if-fault-table.false;
         tips = c.tips_of-tips.ensures;
       };
     }

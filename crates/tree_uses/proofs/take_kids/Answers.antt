@@ -3,5 +3,5 @@
 use Rattle.tree_uses.proofs.MarkLaws.{raised_most}
 use Rattle.tree_uses.proofs.take_kids.Goals as goal
 
-pub add_use-requires-2 : goal.add_use-requires-2
-add_use-requires-2 c = raised_most 65533 _ _ _ c.requires.1 c.add_use.ensures
+pub add_use-requires-then-free : goal.add_use-requires-then-free
+add_use-requires-then-free c = raised_most 65533 _ _ _ c.requires.1 c.add_use.ensures

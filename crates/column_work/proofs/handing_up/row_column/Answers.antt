@@ -1,23 +1,24 @@
 -- `row_column` meets its contract: the rows are the column's, and the root's is copied.
 -- Assumes nothing.
-use mathlib.Core.Path.{subst}
-use Rattle.parsimony.specs.Written.{Wrote}
-use Rattle.promises.proofs.RuleLaws.{hand_up_parts}
-use Rattle.promises.specs.Input.{Input, input}
-use Rattle.row_step.specs.Lane.{entry_at}
-use Rattle.column_work.proofs.ResultLaws.{row_copied}
+use Rattle.std.proofs.Common.{◌≡◌, ℕ, ◌-◌, ◌<◌, ◌∙◌, ap, get_or, length, length-take-le, rules, arith}
+use Rattle.promises.proofs.SoundLaws.{allowed_known}
+use Rattle.promises.specs.Input.{input_of, nodes}
+use Rattle.choice_steps.specs.Marks.{row_of}
+use Rattle.choice_steps.proofs.ResultLaws.{row_copied}
 use Rattle.column_work.proofs.handing_up.row_column.Goals as goal
 
 pub returns : goal.returns
 returns c =
-    let table : Input = input c.args.left.now c.args.right.now c.args.s c.args.costs.now c.args.c
-    c.args.cells.now c.args.handed.now in
-    let parts = hand_up_parts table _ _ _ c.requires.all in
+    let I = input_of c.args.sound.now.table in
+    let table = allowed_known I c.args.sound.now.allowed in
     let rows = c.fill_rows.new.rows in
+    let own = c.copy_from_slice.new.self in
+    let room = c.requires.room.output_room in
+    let size : length own ≡ I.s = c.copy_from_slice.ensures.len ∙ length-take-le I.s c.args.row.now room in
+    let same : length c.row.result.now ≡ I.s = search rules in
+    let read : (x : ℕ) → x < length c.row.result.now → get_or c.row.result.now x 0 ≡ row_of I.s rows (nodes I - 1) x = search rules in
     record {
-      output = row_copied table parts.table _ parts.which rows c.fill_rows.ensures.right
-          (subst (λ at. Wrote 0 table.s (entry_at rows at) c.args.row.now
-          c.copy_row.new.rows)
-          c.root_place.ensures c.copy_row.ensures);
+      output = row_copied I table c.args.j c.requires.inside rows c.fill_rows.ensures.right own c.args.row.now size room
+          (λ x h. ap (λ l. get_or l x 0) c.copy_from_slice.ensures.after ∙ read x (omega arith));
       worked = c.fill_rows.ensures;
     }

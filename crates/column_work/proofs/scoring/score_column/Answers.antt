@@ -1,18 +1,18 @@
 -- `score_column` meets its contract: the least entry of the root's row is the score.
 -- Assumes nothing.
-use mathlib.Core.Path.{◌∙◌}
+use Rattle.std.proofs.Common.{◌≡◌, ◌-◌, ◌∙◌, rules}
+use Rattle.parsimony.specs.Least.{least}
 use Rattle.promises.proofs.Meaning.{score_right}
-use Rattle.promises.specs.Input.{Input, input}
-use Rattle.column_work.proofs.LinkLaws.{least_is}
+use Rattle.promises.proofs.SoundLaws.{allowed_known}
+use Rattle.promises.specs.Input.{input_of, nodes}
+use Rattle.choice_steps.specs.Marks.{row_of}
+use Rattle.choice_steps.proofs.LinkLaws.{least_is}
 use Rattle.column_work.proofs.scoring.score_column.Goals as goal
 
-pub returns : goal.returns
-returns c =
-    let table : Input = input c.args.left.now c.args.right.now c.args.s c.args.costs.now c.args.c
-    c.args.cells.now c.args.handed.now in
-    let rows = c.fill_rows.new.rows in (
-      score_right table c.requires.allowed c.args.j c.requires.j_lt_c.0 _
-          (c.root_least.ensures ∙ least_is table c.requires.allowed c.args.j rows
-          c.fill_rows.ensures.right),
-      c.fill_rows.ensures,
-    )
+pub returns-clause-score : goal.returns-clause-score
+returns-clause-score c =
+    let I = input_of c.args.sound.now.table in
+    let table = allowed_known I c.args.sound.now.allowed in
+    let rows = c.fill_rows.new.rows in
+    let value : c.root_least.result ≡ least (row_of I.s rows (nodes I - 1)) I.s = search rules in
+    score_right I table c.args.j c.requires.inside _ (value ∙ least_is I table c.args.j rows c.fill_rows.ensures.right)

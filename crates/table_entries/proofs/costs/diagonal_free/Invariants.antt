@@ -1,13 +1,9 @@
--- `diagonal_free` meets its contract. The loop's invariant: every diagonal entry before state is 0.
--- The measure is the number of states left.
+-- `diagonal_free` meets its contract. The loop's invariant: every diagonal entry before x is 0.
 -- Assumes nothing.
 use mathlib.Core.Path.{◌≡◌}
-use Prim.Native.Nat.{ℕ, ◌+◌, ◌*◌, ◌-◌, ◌<◌}
+use Prim.Native.Nat.{ℕ, ◌+◌, ◌*◌, ◌<◌}
 use lib.ListN.{get_or}
 use Rattle.table_entries.proofs.costs.diagonal_free.Given as goal
 
-abbrev pub invariant-loop-state : goal.invariant-loop-state
-invariant-loop-state l = (k : ℕ) → k < l.state → get_or l.costs (k * l.s + k) 0 ≡ 0
-
-abbrev pub decreases-loop-state : goal.decreases-loop-state
-decreases-loop-state l = l.s - l.state
+abbrev pub invariant-loop-x : goal.invariant-loop-x
+invariant-loop-x l = (k : ℕ) → k < l.x → get_or l.costs (k * l.s + k) 0 ≡ 0

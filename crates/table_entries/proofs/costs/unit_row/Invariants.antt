@@ -1,8 +1,7 @@
--- `unit_row` meets its contract. The loop's invariant: the row is of unit costs before y. The measure
--- is what is left of the row.
+-- `unit_row` meets its contract. The loop's invariant: the row is of unit costs before y.
 -- Assumes nothing.
 use mathlib.Core.Path.{◌≡◌}
-use Prim.Native.Nat.{ℕ, ◌-◌, ◌<◌}
+use Prim.Native.Nat.{ℕ, ◌<◌}
 use lib.Dec.{eqb}
 use Rattle.parsimony.specs.Column.{cost_at}
 use Rattle.parsimony.specs.Test.{pick}
@@ -10,6 +9,3 @@ use Rattle.table_entries.proofs.costs.unit_row.Given as goal
 
 abbrev pub invariant-loop-y : goal.invariant-loop-y
 invariant-loop-y l = (k : ℕ) → k < l.y → cost_at l.s l.costs l.x k ≡ pick (eqb l.x k) 0 1
-
-abbrev pub decreases-loop-y : goal.decreases-loop-y
-decreases-loop-y l = l.s - l.y

@@ -1,5 +1,0 @@
--- `put_number` ends: each call is on the tens of the number.
-use Rattle.report_text.proofs.+put_number.Given as goal
-
-abbrev pub decreases-put_number : goal.decreases-put_number
-decreases-put_number l = l.n

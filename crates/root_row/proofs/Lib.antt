@@ -1,3 +1,0 @@
--- Laws of the root's row and of starts.
--- Assumes nothing.
-pub mod RootSteps
