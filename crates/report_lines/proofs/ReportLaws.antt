@@ -83,24 +83,30 @@ module _ (I : Input) (table : Allowed I) (inside : 0 < I.c) where
         letters_same (λ v. get_or states' v 0) (label P) (nodes I)
         (label_meant I table 0 inside None (λ v. get_or states' v 0) tt done.labels.right)
 
+    -- what is put together from the scorer's work is the line
+    pub text_is : (number quiet ones : ℕ) → quiet ≡ quiet_mark I.cells
+        → ones ≡ one_states cell_bits (λ v. get_or sets' v 0) (nodes I)
+        → line_text number k quiet ones (letters (λ v. get_or states' v 0) (nodes I)) ≡ column_line I number
+    unfolding column_line
+    text_is number quiet ones q o =
+        let by_rows = score_meant I table 0 inside k done.score in
+        ap₂ (λ x y. line_text number x y ones (letters (λ v. get_or states' v 0) (nodes I))) by_rows q
+        ∙ ap₂ (line_text number (score P) (quiet_mark I.cells)) (o ∙ ones_are) letters_are
+
     module _ (states_room : nodes I ≤ length l) (sets_room : nodes I ≤ length s) (some_states some_sets : List ℕ)
         (el : some_states ≡ take (nodes I) states') (es : some_sets ≡ take (nodes I) sets') where
-      -- what is put together from the states and the sets of the nodes is the line
-      pub text_is : (number quiet ones : ℕ) → quiet ≡ quiet_mark I.cells
+      -- and so is what is put together from the states and the sets of the nodes, as lists of their own
+      pub slices_are : (number quiet ones : ℕ) → quiet ≡ quiet_mark I.cells
           → ones ≡ one_states cell_bits (λ v. get_or some_sets v 0) (length some_sets)
           → line_text number k quiet ones (letters (λ v. get_or some_states v 0) (length some_states))
           ≡ column_line I number
-      unfolding column_line
-      text_is number quiet ones q o =
-          let by_rows = score_meant I table 0 inside k done.score in
+      slices_are number quiet ones q o =
           let states_long = done.labels.long in
           let sets_long = done.each.long in
           let count = o ∙ ap (λ l. one_states cell_bits (λ v. get_or l v 0) (length l)) es
-          ∙ ones_taken cell_bits sets' (nodes I) (omega arith) ∙ ones_are in
-          let labels = ap (λ l. letters (λ v. get_or l v 0) (length l)) el
-          ∙ letters_taken states' (nodes I) (omega arith) ∙ letters_are in
-          ap₂ (λ x y. line_text number x y ones (letters (λ v. get_or some_states v 0) (length some_states))) by_rows q
-          ∙ ap₂ (line_text number (score P) (quiet_mark I.cells)) count labels
+          ∙ ones_taken cell_bits sets' (nodes I) (omega arith) in
+          let labels = ap (λ l. letters (λ v. get_or l v 0) (length l)) el ∙ letters_taken states' (nodes I) (omega arith) in
+          ap (line_text number k quiet ones) labels ∙ text_is number quiet ones q count
 
       -- and there is room for it
       pub line_fits : (number quiet ones start room : ℕ) → number ≤ 65535 → quiet ≡ quiet_mark I.cells
@@ -109,7 +115,7 @@ module _ (I : Input) (table : Allowed I) (inside : 0 < I.c) where
           ≤ room
       line_fits number quiet ones start room few q o fits =
           let most = line_most number few in
-          let same = ap length (text_is number quiet ones q o) in
+          let same = ap length (slices_are number quiet ones q o) in
           omega (arith, most, same, fits)
 
     -- and what is promised

@@ -39,15 +39,15 @@ pub fn node_at(table: &Table, v: usize) -> Node
     requires { (v < length table.now.left.now) × (v < length table.now.right.now) }
     ensures { node_of result ≡ node_in (input_of table.now) v }
 {
-    let l = table.left[v];
-    let r = table.right[v];
-    if l != NO_CHILD {
-        Node::Inner(usize::from(l), usize::from(r))
-    } else if r < FIRST_HANDED {
-        Node::Symbol(usize::from(r))
-    } else {
-        Node::Handed(usize::from(r - FIRST_HANDED))
+    // The right entry is read in each branch: read before them, the branches become selects, and a test of the kind
+    // that follows is made a second time.
+    if table.left[v] != NO_CHILD {
+        return Node::Inner(usize::from(table.left[v]), usize::from(table.right[v]));
     }
+    if table.right[v] < FIRST_HANDED {
+        return Node::Symbol(usize::from(table.right[v]));
+    }
+    Node::Handed(usize::from(table.right[v] - FIRST_HANDED))
 }
 
 // How many nodes are tips, of either kind. The turns have no branch: a loop of them can work on many nodes at once.

@@ -6,17 +6,17 @@ use Rattle.parsimony.proofs.NodeLaws.{node_symbol, node_handed, node_inner}
 use Rattle.tree_nodes.proofs.nodes.node_at.Goals as goal
 
 -- an inner node
-pub returns-then-l : goal.returns-then-l
-returns-then-l c = rw (c.from.ensures, c.from-then-l.ensures) (sym (node_inner _ _ _ _ _ c.if-l.true refl refl))
+pub returns-then-table-v : goal.returns-then-table-v
+returns-then-table-v c = rw (c.from.ensures, c.from-then-table-v.ensures) (sym (node_inner _ _ _ _ _ c.if-table-v.true refl refl))
 
 -- a symbol tip
-pub returns-then-r-lt-FIRST_HANDED : goal.returns-then-r-lt-FIRST_HANDED
-returns-then-r-lt-FIRST_HANDED c =
-    ap (leaf symbol) c.from-then-r-lt-FIRST_HANDED.ensures
-    ∙ sym (node_symbol _ _ _ _ c.if-r-lt-FIRST_HANDED.true c.if-l.false refl)
+pub returns-then-table-v-lt-FIRST_HANDED : goal.returns-then-table-v-lt-FIRST_HANDED
+returns-then-table-v-lt-FIRST_HANDED c =
+    ap (leaf symbol) c.from-then-table-v-lt-FIRST_HANDED.ensures
+    ∙ sym (node_symbol _ _ _ _ c.if-table-v-lt-FIRST_HANDED.true c.if-table-v.false refl)
 
 -- a handed tip
-pub returns-else-r-lt-FIRST_HANDED : goal.returns-else-r-lt-FIRST_HANDED
-returns-else-r-lt-FIRST_HANDED c =
-    ap (leaf handed) c.from-else-r-lt-FIRST_HANDED.ensures
-    ∙ sym (node_handed _ _ _ _ c.if-l.false (omega (arith, c.if-r-lt-FIRST_HANDED.false)))
+pub returns : goal.returns
+returns c =
+    ap (leaf handed) c.from-2.ensures
+    ∙ sym (node_handed _ _ _ _ c.if-table-v.false (omega (arith, c.if-table-v-lt-FIRST_HANDED.false)))
