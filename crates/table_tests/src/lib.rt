@@ -1,6 +1,7 @@
 // The tests 1 to 5, in their order: what every call asks of its table.
 #![tactic(auto)]
 
+ghost use Rattle.std.specs.Prelude.{List, ℕ};
 ghost use Rattle.promises.specs.CallRules.{table_rules};
 ghost use Rattle.promises.specs.Input.{input_of};
 ghost use Rattle.table_tests.specs.Tested.{MatrixTests, Tests};
@@ -14,7 +15,8 @@ use tree_test::check_tree;
 
 // SIZE, SHAPE, COSTS and CELLS, whatever the handed entries are: the number of handed tips.
 pub fn matrix_tests(table: &Table) -> Result<usize, Refusal>
-    ensures { MatrixTests (input_of table.now) result }
+    ensures own { MatrixTests (input_of table.now) result }
+    ensures others { (entries : List ℕ) → MatrixTests (record (input_of table.now) { handed = entries }) result }
 {
     if !size_fits(table) {
         return Err(Refusal::Size);

@@ -18,7 +18,14 @@ cells_fit-requires c =
     let costs = unless_yes c.costs_fit.ensures c.if-not-costs_fit.false-raw in
     (costs.most, omega (arith, size.most, tree.tips.symbol_tips))
 
-pub returns-in-Err : goal.returns-in-Err
-returns-in-Err c =
+pub returns-in-Err-clause-own : goal.returns-in-Err-clause-own
+returns-in-Err-clause-own c =
     let fault = (subst (Found _ _) c.in-Err.is c.check_tree.ensures).found in
     record { tests = shape_refused _ (unless_yes c.size_fits.ensures c.if-not-size_fits.false-raw) _ fault }
+
+pub returns-in-Err-clause-others : goal.returns-in-Err-clause-others
+returns-in-Err-clause-others c =
+    let fault = (subst (Found _ _) c.in-Err.is c.check_tree.ensures).found in
+    λ entries. record {
+      tests = shape_refused _ (unless_yes c.size_fits.ensures c.if-not-size_fits.false-raw) _ fault;
+    }

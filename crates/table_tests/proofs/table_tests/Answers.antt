@@ -11,7 +11,7 @@ use Rattle.table_tests.proofs.table_tests.Goals as goal
 pub handed_fit-requires : goal.handed_fit-requires
 handed_fit-requires c =
     let I = input_of c.args.table.now in
-    let passed = (subst (MatrixTests _) c.in_ok-handed_tips.was c.matrix_tests.ensures).tests in
+    let passed = (subst (MatrixTests _) c.in_ok-handed_tips.was c.matrix_tests.ensures.own).tests in
     let matrix = matrix_parts I passed.all in
     let few = tips_most (node_in I) handed (nodes I) in
     (omega (arith, matrix.costs.fewest), matrix.costs.most, matrix.cells.columns, omega (arith, matrix.legal.size.most, passed.tips))
