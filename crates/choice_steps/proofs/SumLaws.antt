@@ -1,11 +1,7 @@
 -- The sums of a child's states, as a slice of those that were worked: they are the lane of the table's costs.
 -- Assumes nothing.
-use Rattle.std.proofs.Common.{List, ◌≡◌, ℕ, ◌<◌, ◌≤◌, length, get_or, take, ◌∙◌, ap, sym, arith, get_or-take, length-take-le}
-use Rattle.parsimony.specs.Least.{low}
-use Rattle.parsimony.specs.Tie.{rule_in_use}
+use Rattle.std.proofs.Common.{List, ◌≡◌, ℕ, ◌<◌, ◌≤◌, length, get_or, take, ◌∙◌, ap, arith, get_or-take, length-take-le}
 use Rattle.parsimony.specs.Written.{entries, Each}
-use Rattle.parsimony.proofs.LeastLaws.{low_same}
-use Rattle.parsimony.proofs.TieLaws.{in_use_low}
 use Rattle.row_step.specs.Lane.{lane, RowIs}
 use Rattle.row_step.proofs.LaneLaws.{lane_row}
 use Rattle.choice_steps.specs.Ties.{least_set}
@@ -22,13 +18,6 @@ module _ (cost : ℕ → ℕ) (costs row sums : List ℕ) (s : ℕ) (count : len
     module _ (long : length row ≤ length sums) where
       size : length (take (length row) sums) ≡ s
       size = length-take-le (length row) sums long ∙ states
-
-      -- the lowest of the sums is what the tie rule in use takes
-      pub choice_is : (x : ℕ) → low (entries (take (length row) sums)) (length (take (length row) sums))
-          ≡ rule_in_use s x (lane cost (entries row))
-      choice_is x =
-          ap (low (entries (take (length row) sums))) size ∙ low_same _ _ s sum_is
-          ∙ sym (in_use_low s x (lane cost (entries row)))
 
       -- the states at which the sums are least are those that reach the least
       pub reached_is : 0 < s → least_set (entries (take (length row) sums)) (length (take (length row) sums))

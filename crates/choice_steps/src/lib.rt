@@ -37,8 +37,18 @@ pub fn choose(costs: &Costs, x: usize, row: &[u32]) -> usize
     ensures { result ≡ rule_in_use costs.now.s x
         (lane (cost_at costs.now.s costs.now.list.now x) (entries row.now)) }
 {
-    let sums = sums(costs.row(x), row);
-    lowest_least(&sums[..row.len()])
+    // One pass: `lowest_least` of the sums is two, and labelling then takes a quarter longer.
+    let changes = costs.row(x);
+    let mut best = through(changes, row, 0);
+    let mut lowest = 0;
+    for y in 1..row.len() {
+        let sum = through(changes, row, y);
+        if sum < best {
+            best = sum;
+            lowest = y;
+        }
+    }
+    lowest
 }
 
 // The lowest state at which a row is least.

@@ -5,6 +5,7 @@ ghost use Rattle.promises.specs.CallWrites.{RowWritten};
 ghost use Rattle.promises.specs.Input.{input_of};
 
 use promises::Sound;
+use row_step::copy_row;
 use rows_up::{fill_rows, rows_in};
 
 // The root's row of column j.
@@ -15,5 +16,8 @@ pub fn row_column(sound: &Sound, j: usize, row: &mut [u32], rows: &mut [u32])
 {
     fill_rows(sound, j, rows);
     let worked = rows_in(sound, j, rows);
-    row[..sound.table.s].copy_from_slice(worked.row(sound.table.left.len() - 1));
+    copy_row(
+        worked.row(sound.table.left.len() - 1),
+        &mut row[..sound.table.s],
+    );
 }

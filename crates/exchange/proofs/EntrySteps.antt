@@ -1,6 +1,6 @@
 -- The turns of the entry: the sheet's fault, the column, the room, the line.
 -- Assumes nothing.
-use mathlib.Core.List.{List, [], ◌++◌}
+use mathlib.Core.List.{List, ◌++◌}
 use mathlib.Core.Path.{◌≡◌, ap, sym, ◌∙◌}
 use Prim.Native.Nat.{ℕ, ◌*◌, ◌<◌, ◌≤◌}
 use native.Mathlib.Omega.{arith}
@@ -21,6 +21,9 @@ use Rattle.exchange.specs.Entry.{
   Entered,
 }
 use Rattle.sheet_lines.specs.declared.Fault.{Fault}
+use Rattle.report_text.specs.Puts.{Puts, text_in}
+use Rattle.report_text.specs.declared.Text.{Text}
+use Rattle.report_lines.proofs.LineSteps.{framed}
 use Rattle.report_pages.specs.SheetLine.{on_judged, line_in, Printable, PrintedOf}
 use Rattle.report_pages.proofs.PrintSteps.{printable_most}
 use Rattle.report_pages.proofs.ReadLaws.{read_sound}
@@ -75,31 +78,33 @@ module _ (sheet : List ℕ) (j : ℕ) (out : List ℕ) where
           to_line ∙ pick_false _ _ (le-ltb (length out) (length (line_in sheet has j)) room) in
           record { answer = c ∙ ap outcome_code (sym told); output = o ∙ ap (λ r. leaves r out) (sym told) }
 
--- the line that is given, from the line that is printed after nothing
+-- the line that is given, from the line that is printed at the start of a list
 module _ (sheet : List ℕ) (s : Sheet) (costs left right : List ℕ) (j : ℕ) (ready : Printable sheet s costs left right j)
-    {start line text : List ℕ} {k : ℕ} (none : start ≡ []) (printed : PrintedOf sheet j start line k)
-    (same : text ≡ line)
+    (line line' : Text) (k : ℕ) (none : line.len ≡ 0) (printed : PrintedOf sheet j line line' k)
   where
-    text_is : text ≡ line_in sheet ready.has j
-    text_is =
-        same ∙ (printed.printed ready.has ready.read.is).text ∙ ap (λ l. l ++ line_in sheet ready.has j) none
+    puts : Puts (line_in sheet ready.has j) line line'
+    puts = (printed.printed ready.has ready.read.is).text
 
-    -- it is at most 1,056 bytes long
-    pub give_short : length text ≤ 1056
-    give_short =
-        let most = printable_most sheet s costs left right j ready in let long = ap length text_is in omega arith
+    module _ {text : List ℕ} (same : text ≡ text_in line') where
+      text_is : text ≡ line_in sheet ready.has j
+      text_is = same ∙ framed (line_in sheet ready.has j) line line' none puts
 
-    pub give_room : (out : List ℕ) → length out < length text → Entered sheet j out 8 out
-    give_room out short =
-        let long = ap length text_is in entry_room sheet j out ready.has ready.read.is ready.inside (omega arith)
+      -- it is at most 1,056 bytes long
+      pub give_short : length text ≤ 1056
+      give_short =
+          let most = printable_most sheet s costs left right j ready in let long = ap length text_is in omega arith
 
-    pub give_done : (out put : List ℕ) → length text ≤ length out → put ≡ text
-        → Entered sheet j out (256 * length text) (put ++ drop (length text) out)
-    give_done out put room is =
-        let long = ap length text_is in
-        entry_done sheet j out ready.has ready.read.is ready.inside (256 * length text) (put ++ drop (length text) out)
-        (omega arith) (omega arith)
-        (ap (λ l. l ++ drop (length text) out) is ∙ ap (λ l. l ++ drop (length l) out) text_is)
+      pub give_room : (out : List ℕ) → length out < length text → Entered sheet j out 8 out
+      give_room out short =
+          let long = ap length text_is in entry_room sheet j out ready.has ready.read.is ready.inside (omega arith)
+
+      pub give_done : (out put : List ℕ) → length text ≤ length out → put ≡ text
+          → Entered sheet j out (256 * length text) (put ++ drop (length text) out)
+      give_done out put room is =
+          let long = ap length text_is in
+          entry_done sheet j out ready.has ready.read.is ready.inside (256 * length text) (put ++ drop (length text) out)
+          (omega arith) (omega arith)
+          (ap (λ l. l ++ drop (length text) out) is ∙ ap (λ l. l ++ drop (length l) out) text_is)
 
 -- no such column
 pub read_which : (sheet : List ℕ) (s : Sheet) (answer : Result Sheet Fault) (table' : List (List ℕ))

@@ -6,9 +6,9 @@ ghost use Rattle.std.specs.Prelude.{◌<◌};
 ghost use Rattle.exchange.specs.Entry.{Entered};
 
 use answer_codes::fault_code;
-use parsimony::{MOST_NODES, NO_CHILD};
+use parsimony::{BARRED, Cell, MOST_NODES, NO_CHILD};
 use report_lines::column::MOST_LINE;
-use report_pages::{ReadSheet, Room, sheet_line};
+use report_pages::{MOST_ENTRIES, ReadSheet, Room, sheet_line};
 use report_text::Text;
 use sheet::read_sheet;
 use sheet_costs::flat_costs;
@@ -24,8 +24,18 @@ fn give_line(s: &ReadSheet, j: usize, out: &mut [u8]) -> u64
     requires { j < s.now.numbers.columns }
     ensures { Entered s.now.bytes.now j out.old result out.new }
 {
-    let mut room = Room::new();
-    let mut line: Text<MOST_LINE> = Text::new();
+    let mut cells: [Cell; MOST_NAMES] = [0; MOST_NAMES];
+    let mut states = [0u8; MOST_NODES];
+    let mut sets: [Cell; MOST_NODES] = [0; MOST_NODES];
+    let mut rows = [BARRED; MOST_ENTRIES];
+    let mut room = Room {
+        cells: &mut cells,
+        states: &mut states,
+        sets: &mut sets,
+        rows: &mut rows,
+    };
+    let mut bytes = [0; MOST_LINE];
+    let mut line = Text::over(&mut bytes);
     sheet_line(s, j, &mut room, &mut line);
     let text = line.as_slice();
     let n = text.len();

@@ -2,9 +2,9 @@
 // is only what reads, goes from page to page, and writes.
 #![tactic(auto)]
 
-use parsimony::{MOST_NODES, NO_CHILD};
+use parsimony::{BARRED, Cell, MOST_NODES, NO_CHILD};
 use report_lines::frame::{columns_line, total_line};
-use report_pages::{Progress, ReadSheet, Room, print_page, refusal_line};
+use report_pages::{MOST_ENTRIES, Progress, ReadSheet, Room, print_page, refusal_line};
 use report_text::Text;
 use sheet::{MOST_BYTES, read_sheet};
 use sheet_costs::flat_costs;
@@ -20,29 +20,39 @@ const SHEET_ROOM: usize = MOST_BYTES + 1;
 // What goes out in one write.
 const PAGE_ROOM: usize = 65536;
 
-// Writes a text.
-fn write_text<const N: usize>(text: &Text<N>) {
-    io::write_all(STANDARD_OUTPUT, text.as_slice());
+// Writes bytes.
+fn write_bytes(bytes: &[u8]) {
+    io::write_all(STANDARD_OUTPUT, bytes);
 }
 
 // Writes the lines of all columns, page by page, and answers the total.
 // It is a `while`, since each page says where the next one starts.
 fn write_columns(s: &ReadSheet) -> usize {
-    let mut room = Room::new();
-    let mut page: Text<PAGE_ROOM> = Text::new();
+    let mut cells: [Cell; MOST_NAMES] = [0; MOST_NAMES];
+    let mut states = [0u8; MOST_NODES];
+    let mut sets: [Cell; MOST_NODES] = [0; MOST_NODES];
+    let mut rows = [BARRED; MOST_ENTRIES];
+    let mut room = Room {
+        cells: &mut cells,
+        states: &mut states,
+        sets: &mut sets,
+        rows: &mut rows,
+    };
+    let mut bytes = [0; PAGE_ROOM];
+    let mut page = Text::over(&mut bytes);
     let mut done = Progress { next: 0, total: 0 };
     while done.next < s.numbers.columns {
         done = print_page(s, done, &mut room, &mut page);
-        write_text(&page);
+        write_bytes(page.as_slice());
     }
     done.total
 }
 
 // Writes the report of a sound sheet.
 fn write_report(s: &ReadSheet) {
-    write_text(&columns_line(s.numbers.columns));
+    write_bytes(columns_line(s.numbers.columns).as_slice());
     let total = write_columns(s);
-    write_text(&total_line(total));
+    write_bytes(total_line(total).as_slice());
 }
 
 // Reads the sheet, and writes its report or its refusal.
@@ -52,7 +62,7 @@ fn report(sheet: &[u8]) {
     let mut left = [NO_CHILD; MOST_NODES];
     let mut right = [NO_CHILD; MOST_NODES];
     match read_sheet(sheet, &mut names, &mut table, &mut left, &mut right) {
-        Err(fault) => write_text(&refusal_line(fault)),
+        Err(fault) => write_bytes(refusal_line(fault).as_slice()),
         Ok(s) => {
             let costs = flat_costs(table);
             write_report(&ReadSheet {

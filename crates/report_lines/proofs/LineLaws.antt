@@ -1,11 +1,10 @@
 -- How long the lines and their parts are.
 -- Assumes nothing.
-use Rattle.std.proofs.Common.{◌≡◌, ℕ, ◌+◌, ◌^◌, ◌<◌, ◌≤◌, List, [], ◌∷◌, ◌++◌, length, refl, arith, length-append}
-use Rattle.std.proofs.lemmas.Grind.{common_steps}
+use Rattle.std.proofs.Common.{◌≡◌, ℕ, ◌+◌, ◌^◌, ◌<◌, ◌≤◌, List, [], ◌∷◌, ◌++◌, length, refl, ap, arith, length-append}
 use Rattle.sheet_lines.specs.Bytes.{bytes}
 use Rattle.report_text.specs.Decimal.{decimal}
 use Rattle.report_text.proofs.NumberSteps.{number_fits}
-use Rattle.report_lines.specs.Frame.{word_line, refused_line}
+use Rattle.report_lines.specs.Frame.{word_line, number_line, refused_line}
 use Rattle.report_lines.specs.Line.{field, line_text}
 
 -- a field is its number and one byte
@@ -40,5 +39,29 @@ pub refused_bytes : (number place : ℕ) → refused_line number place
 unfolding refused_line bytes
 refused_bytes number place = refl
 
--- what a word, a number and a second number need
-pub ruleset word_steps = (common_steps, word_most, number_fits, refused_bytes)
+-- the line of a word and a number has one byte more
+pub number_line_length : (word : List ℕ) (n : ℕ) → length (number_line word n) ≡ length (word_line word n) + 1
+unfolding number_line
+number_line_length word n = length-append (word_line word n) (10 ∷ [])
+
+pub number_line_most : (word : List ℕ) (n : ℕ) → n < 2 ^ 64 → length (number_line word n) ≤ length word + 21
+number_line_most word n small =
+    let long = number_line_length word n in let most = word_most word n small in omega arith
+
+-- the line of a refused sheet has two numbers and ten bytes more
+pub refused_length : (number place : ℕ) → length (refused_line number place)
+    ≡ length (word_line (114 ∷ 101 ∷ 102 ∷ 117 ∷ 115 ∷ 101 ∷ 100 ∷ 32 ∷ []) number) + 1 + length (decimal place) + 1
+refused_length number place =
+    let word = word_line (114 ∷ 101 ∷ 102 ∷ 117 ∷ 115 ∷ 101 ∷ 100 ∷ 32 ∷ []) number in
+    let is = ap length (refused_bytes number place) in
+    let one = length-append (word ++ (32 ∷ []) ++ decimal place) (10 ∷ []) in
+    let two = length-append (word ++ (32 ∷ [])) (decimal place) in
+    let three = length-append word (32 ∷ []) in
+    omega arith
+
+pub refused_most : (number place : ℕ) → number < 2 ^ 64 → place < 2 ^ 64 → length (refused_line number place) ≤ 64
+refused_most number place small low =
+    let long = refused_length number place in
+    let word = word_most (114 ∷ 101 ∷ 102 ∷ 117 ∷ 115 ∷ 101 ∷ 100 ∷ 32 ∷ []) number small in
+    let digits = number_fits place low in
+    omega arith

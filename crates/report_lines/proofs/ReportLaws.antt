@@ -1,6 +1,6 @@
 -- From what the scorer promises to the column's line: its parts, its bytes and its length.
 -- Assumes nothing.
-use mathlib.Core.List.{List, ◌++◌}
+use mathlib.Core.List.{List}
 use mathlib.Core.Path.{◌≡◌, ap, ap₂, ◌∙◌, subst}
 use Prim.Native.Nat.{ℕ, ◌+◌, ◌≤◌, ◌<◌}
 use native.Mathlib.Omega.{arith}
@@ -33,6 +33,8 @@ use Rattle.report_marks.proofs.LetterLaws.{letters_length, letters_same, letters
 use Rattle.report_marks.proofs.OneStateLaws.{ones_same, ones_most, ones_taken}
 use Rattle.report_marks.proofs.QuietLaws.{quiet_small}
 use Rattle.report_text.proofs.DecimalLaws.{decimal_length}
+use Rattle.report_text.specs.Puts.{Puts}
+use Rattle.report_text.specs.declared.Text.{Text}
 use Rattle.report_lines.specs.Line.{line_text, column_line}
 use Rattle.report_lines.specs.Reports.{Reported}
 use Rattle.report_lines.proofs.LineLaws.{field_length, line_length}
@@ -119,11 +121,11 @@ module _ (I : Input) (table : Allowed I) (inside : 0 < I.c) where
           omega (arith, most, same, fits)
 
     -- and what is promised
-    pub report_is : (number : ℕ) {line line' text : List ℕ} → text ≡ column_line I number → line' ≡ line ++ text
+    pub report_is : (number : ℕ) (line line' : Text) (text : List ℕ) → text ≡ column_line I number → Puts text line line'
         → Reported I number l s r line k states' sets' rows' line'
-    report_is number {line} is put =
+    report_is number line line' text is put =
         record {
-          text = put ∙ ap (λ t. line ++ t) is;
+          text = subst (λ bytes. Puts bytes line line') is put;
           score = score_meant I table 0 inside k done.score;
           worked = done;
         }

@@ -1,8 +1,9 @@
 // A column's line: its number, its score, its quiet mark, the number of nodes whose set has one state, and the labels.
-ghost use Rattle.std.specs.Prelude.{[], ℕ, ◌≡◌, ◌+◌, ◌≤◌, ◌++◌, length, get_or};
+ghost use Rattle.std.specs.Prelude.{[], ℕ, ◌+◌, ◌≤◌, length, get_or};
 ghost use Rattle.promises.specs.CallRules.{Allowed, FitsWork};
 ghost use Rattle.promises.specs.Input.{asked_with, entered_with};
 ghost use Rattle.report_marks.specs.Letters.{letters};
+ghost use Rattle.report_text.specs.Puts.{Fits, Puts};
 ghost use Rattle.report_lines.specs.Line.{field, line_text};
 ghost use Rattle.report_lines.specs.Reports.{Reported};
 
@@ -20,9 +21,9 @@ pub const MOST_LINE: usize = 1056;
 
 // Puts a number and a space.
 #[tactic(auto, using(std::proofs::lemmas::Grind::common_steps, crate::proofs::LineSteps::field_steps))]
-fn put_field<const N: usize>(n: usize, line: &mut Text<N>)
-    requires { length line.old + length (field n) ≤ N }
-    ensures { line.new ≡ line.old ++ field n }
+fn put_field(n: usize, line: &mut Text)
+    requires { Fits (field n) line.old }
+    ensures { Puts (field n) line.old line.new }
 {
     line.number(n);
     line.byte(SPACE);
@@ -30,19 +31,13 @@ fn put_field<const N: usize>(n: usize, line: &mut Text<N>)
 
 // Puts the five parts of a column's line.
 #[tactic(auto, using(std::proofs::lemmas::Grind::common_steps, crate::proofs::LineSteps::line_steps))]
-fn put_line<const N: usize>(
-    number: usize,
-    score: usize,
-    quiet: usize,
-    ones: usize,
-    states: &[u8],
-    line: &mut Text<N>,
-)
-    requires { length line.old
-        + length (line_text number score quiet ones (letters (λ (v : ℕ). get_or states.now v 0) (length states.now)))
-        ≤ N }
-    ensures { line.new ≡ line.old
-        ++ line_text number score quiet ones (letters (λ (v : ℕ). get_or states.now v 0) (length states.now)) }
+fn put_line(number: usize, score: usize, quiet: usize, ones: usize, states: &[u8], line: &mut Text)
+    requires { Fits
+        (line_text number score quiet ones (letters (λ (v : ℕ). get_or states.now v 0) (length states.now)))
+        line.old }
+    ensures { Puts
+        (line_text number score quiet ones (letters (λ (v : ℕ). get_or states.now v 0) (length states.now)))
+        line.old line.new }
 {
     put_field(number, line);
     put_field(score, line);
@@ -52,7 +47,7 @@ fn put_line<const N: usize>(
 }
 
 // Puts the line of a table's one column, which has this number in the sheet, and answers the score.
-pub fn column_line<const N: usize>(
+pub fn column_line(
     left: &[u16],
     right: &[u16],
     costs: &[u16],
@@ -61,12 +56,12 @@ pub fn column_line<const N: usize>(
     states: &mut [u8],
     sets: &mut [Cell],
     rows: &mut [u32],
-    line: &mut Text<N>,
+    line: &mut Text,
 ) -> usize
     requires allowed { Allowed (asked_with left right 4 costs 1 cells []) }
     requires fits_work { FitsWork (asked_with left right 4 costs 1 cells []) (length states.old) (length sets.old)
         (length rows.old) }
-    requires number_bound { (number ≤ 65535) × (length line.old + 1056 ≤ N) }
+    requires number_bound { (number ≤ 65535) × (line.old.len + 1056 ≤ length line.old.list.now) }
     ensures { Reported (entered_with left right 4 costs 1 cells []) number
         states.old sets.old rows.old line.old result states.new sets.new rows.new line.new }
 {

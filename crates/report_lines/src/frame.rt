@@ -1,39 +1,78 @@
 // The report's other lines, each with its line end: the number of columns, the total, and the line of a refused sheet.
 ghost use Rattle.std.specs.Prelude.{◌≡◌, ◌+◌, ◌≤◌, length};
+ghost use Rattle.report_text.specs.Puts.{Fits, Puts};
 ghost use Rattle.report_lines.specs.Frame.{word_line, number_line, columns_line, total_line, refused_line};
 
 use report_text::Text;
 use sheet_lines::{LINE_END, SPACE};
+use std::marker::Model;
 
 // None of these lines is longer.
 pub const MOST_FRAME: usize = 64;
 
-// A word and a number.
-#[tactic(auto, using(report_text::proofs::NumberSteps::number_fits), unfolding(crate::specs::Frame::word_line))]
-fn word_line(word: &[u8], n: usize) -> Text<MOST_FRAME>
-    requires { length word.now + 20 ≤ 64 }
-    ensures { result ≡ word_line word.now n }
+// One of these lines: the first len bytes.
+#[derive(Drop)]
+pub struct Frame {
+    len: usize,
+    bytes: [u8; MOST_FRAME],
+}
+
+// Clauses see the line's bytes.
+impl Model for Frame {
+    ghost use Rattle.std.specs.Prelude.{List, ℕ, ◌≤◌, take};
+
+    ghost Value = { List ℕ };
+
+    ghost view = { λ f. take f.len f.bytes };
+
+    ghost invariant = { λ f. f.len ≤ 64 };
+}
+
+impl Frame {
+    // The line's bytes.
+    pub fn as_slice(&self) -> &[u8]
+        ensures { result.now ≡ self.now }
+    {
+        &self.bytes[..self.len]
+    }
+}
+
+// Puts a word and a number.
+#[tactic(auto, using(std::proofs::lemmas::Grind::common_steps, crate::proofs::LineSteps::put_word_steps))]
+fn put_word(word: &[u8], n: usize, line: &mut Text)
+    requires { Fits (word_line word.now n) line.old }
+    ensures { Puts (word_line word.now n) line.old line.new }
 {
-    let mut line = Text::new();
     line.text(word);
     line.number(n);
-    line
+}
+
+// Puts the line of a word and a number.
+#[tactic(auto, using(std::proofs::lemmas::Grind::common_steps, crate::proofs::LineLaws::number_line_length))]
+fn put_number_line(word: &[u8], n: usize, line: &mut Text)
+    requires { Fits (number_line word.now n) line.old }
+    ensures { Puts (number_line word.now n) line.old line.new }
+{
+    put_word(word, n, line);
+    line.byte(LINE_END);
 }
 
 // The line of a word and a number.
-#[tactic(auto, using(crate::proofs::LineLaws::word_most), unfolding(crate::specs::Frame::number_line))]
-fn number_line(word: &[u8], n: usize) -> Text<MOST_FRAME>
+#[tactic(auto, using(crate::proofs::LineLaws::number_line_most, crate::proofs::LineSteps::framed))]
+fn number_line(word: &[u8], n: usize) -> Frame
     requires { length word.now + 21 ≤ 64 }
     ensures { result ≡ number_line word.now n }
 {
-    let mut line = word_line(word, n);
-    line.byte(LINE_END);
-    line
+    let mut bytes = [0; MOST_FRAME];
+    let mut line = Text::over(&mut bytes);
+    put_number_line(word, n, &mut line);
+    let len = line.len;
+    Frame { len, bytes }
 }
 
 // The line with the number of columns.
 #[tactic(auto, unfolding(crate::specs::Frame::columns_line, sheet_lines::specs::Bytes::bytes))]
-pub fn columns_line(c: usize) -> Text<MOST_FRAME>
+pub fn columns_line(c: usize) -> Frame
     ensures { result ≡ columns_line c }
 {
     number_line(b"columns ", c)
@@ -41,20 +80,32 @@ pub fn columns_line(c: usize) -> Text<MOST_FRAME>
 
 // The line with the total.
 #[tactic(auto, unfolding(crate::specs::Frame::total_line, sheet_lines::specs::Bytes::bytes))]
-pub fn total_line(total: usize) -> Text<MOST_FRAME>
+pub fn total_line(total: usize) -> Frame
     ensures { result ≡ total_line total }
 {
     number_line(b"total ", total)
 }
 
-// The line of a refused sheet, with the refusal's number and the sheet's line.
-#[tactic(auto, using(crate::proofs::LineLaws::word_steps))]
-pub fn refused_line(number: usize, place: usize) -> Text<MOST_FRAME>
-    ensures { result ≡ refused_line number place }
+// Puts the line of a refused sheet.
+#[tactic(auto, using(std::proofs::lemmas::Grind::common_steps, crate::proofs::LineLaws::refused_length))]
+fn put_refused_line(number: usize, place: usize, line: &mut Text)
+    requires { Fits (refused_line number place) line.old }
+    ensures { Puts (refused_line number place) line.old line.new }
 {
-    let mut line = word_line(b"refused ", number);
+    put_word(b"refused ", number, line);
     line.byte(SPACE);
     line.number(place);
     line.byte(LINE_END);
-    line
+}
+
+// The line of a refused sheet, with the refusal's number and the sheet's line.
+#[tactic(auto, using(crate::proofs::LineLaws::refused_most, crate::proofs::LineSteps::framed))]
+pub fn refused_line(number: usize, place: usize) -> Frame
+    ensures { result ≡ refused_line number place }
+{
+    let mut bytes = [0; MOST_FRAME];
+    let mut line = Text::over(&mut bytes);
+    put_refused_line(number, place, &mut line);
+    let len = line.len;
+    Frame { len, bytes }
 }

@@ -1,13 +1,15 @@
 -- The letters of the labels: how many, what they depend on, and how they are put one after the other.
 -- Assumes nothing.
 use mathlib.Core.List.{List, [], ◌∷◌, ◌++◌}
-use mathlib.Core.Path.{◌≡◌, refl, ap, ap₂, sym, ◌∙◌}
+use mathlib.Core.Path.{◌≡◌, refl, ap, ap₂, sym, ◌∙◌, subst}
 use Prim.Native.Nat.{ℕ, zero, suc, ◌+◌, ◌≤◌, ◌<◌}
 use native.Mathlib.Omega.{arith}
 use lib.ListN.{length, length-append, get_or, take}
 use Rattle.std.proofs.Common.{length-take-le, get_or-take}
 use Rattle.std.specs.List.{AllZip}
 use Rattle.report_text.specs.Mapped.{Mapped}
+use Rattle.report_text.specs.Puts.{Puts}
+use Rattle.report_text.specs.declared.Text.{Text}
 use Rattle.report_marks.specs.Letters.{letter_of, letters}
 
 -- a letter for each node
@@ -50,10 +52,10 @@ letters_made f is (x ∷ states) (y ∷ made) (first, each) =
     ∙ sym (letters_first (λ v. get_or (x ∷ states) v 0) (length states))
 
 -- and puts them after a text
-pub letters_mapped : (f : ℕ → ℕ → Type 0) → ((x y : ℕ) → f x y → y ≡ letter_of x) → (states before after : List ℕ)
-    → Mapped f states before after → after ≡ before ++ letters (λ v. get_or states v 0) (length states)
-letters_mapped f is states before after (made, each, put) =
-    put ∙ ap (λ text. before ++ text) (letters_made f is states made each)
+pub letters_mapped : (f : ℕ → ℕ → Type 0) → ((x y : ℕ) → f x y → y ≡ letter_of x) → (states : List ℕ) (t t' : Text)
+    → Mapped f states t t' → Puts (letters (λ v. get_or states v 0) (length states)) t t'
+letters_mapped f is states t t' (made, each, put) =
+    subst (λ bytes. Puts bytes t t') (letters_made f is states made each) put
 
 -- the letters of the first n states of a list
 pub letters_taken : (states : List ℕ) (n : ℕ) → n ≤ length states

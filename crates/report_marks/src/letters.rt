@@ -1,5 +1,6 @@
 // Labels as letters.
-ghost use Rattle.std.specs.Prelude.{◌≡◌, ℕ, ◌+◌, ◌≤◌, ◌++◌, length, get_or};
+ghost use Rattle.std.specs.Prelude.{◌≡◌, ℕ, length, get_or};
+ghost use Rattle.report_text.specs.Puts.{Fits, Puts};
 ghost use Rattle.report_marks.specs.Letters.{letter_of, letters};
 
 use report_text::Text;
@@ -18,9 +19,9 @@ fn letter(state: u8) -> u8
 }
 
 // Puts the letters of the states.
-pub fn put_letters<const N: usize>(states: &[u8], text: &mut Text<N>)
-    requires { length text.old + length states.now ≤ N }
-    ensures { text.new ≡ text.old ++ letters (λ (v : ℕ). get_or states.now v 0) (length states.now) }
+pub fn put_letters(states: &[u8], text: &mut Text)
+    requires { Fits states.now text.old }
+    ensures { Puts (letters (λ (v : ℕ). get_or states.now v 0) (length states.now)) text.old text.new }
 {
     text.mapped(states, |state| letter(state));
 }

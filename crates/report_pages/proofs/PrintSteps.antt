@@ -15,8 +15,9 @@ use Rattle.promises.specs.Input.{Input, input, column}
 use Rattle.promises.proofs.TableLaws.{table_sound}
 use Rattle.sheet_cells.specs.IsRow.{row_at}
 use Rattle.sheet_tips.specs.Nodes.{lefts, rights}
-use Rattle.sheet_tree.proofs.PairSteps.{lefts_long}
+use Rattle.sheet_tree.proofs.PairSteps.{lefts_long, rights_long}
 use Rattle.report_pages.specs.SheetLine.{line_in, score_in, Printed, Printable, PrintedOf}
+use Rattle.report_text.specs.declared.Text.{Text}
 use Rattle.report_lines.specs.Reports.{Reported}
 use Rattle.report_lines.proofs.ReportLaws.{line_most}
 use Rattle.sheet_sections.proofs.SheetLaws.{sheet_read}
@@ -66,6 +67,14 @@ module _ (sheet : List ℕ) (s : Sheet) (costs left right : List ℕ) (j : ℕ) 
         let inside = ready.inside in
         (omega arith, omega arith)
 
+    -- and the lists of the tree have them all
+    pub printable_lists : (s.nodes ≡ length (take s.nodes left)) × (s.nodes ≡ length (take s.nodes right))
+    printable_lists =
+        let n = ready.read.nodes in
+        let l = ap length ready.read.lefts ∙ lefts_long has.vine 0 in
+        let r = ap length ready.read.rights ∙ rights_long has.vine 0 in
+        (omega arith, omega arith)
+
     -- the cells that are put are those of the column
     pub put_cells_are : (cells : List ℕ) → length cells ≡ 512 → Filled sheet s.columns s.cells j s.tips cells
         → take s.tips cells ≡ cells_of sheet has j
@@ -108,8 +117,8 @@ module _ (sheet : List ℕ) (s : Sheet) (costs left right : List ℕ) (j : ℕ) 
         score_open most_handed (column I 0) (table_sound I printable_allowed 0 (omega arith))
 
     -- and its line is the column's
-    pub printable_line : (I : Input) → I ≡ table_of sheet has j → (states sets rows line : List ℕ) (k : ℕ)
-        (states' sets' rows' line' : List ℕ)
+    pub printable_line : (I : Input) → I ≡ table_of sheet has j → (states sets rows : List ℕ) (line : Text) (k : ℕ)
+        (states' sets' rows' : List ℕ) (line' : Text)
         → Reported I j states sets rows line k states' sets' rows' line' → PrintedOf sheet j line line' k
     unfolding line_in score_in
     printable_line I same states sets rows line k states' sets' rows' line' reported =

@@ -52,7 +52,7 @@ module _ (sheet : List ℕ) (has : Contents) where
     pages_lines [] first total next all (here, same) =
         (0, here ∙ sym (add-zero first), refl, same ∙ sym (add-zero total))
     pages_lines (p ∷ ps) first total next all (page, more) =
-        let one : Lines sheet has first total p.next p.total p.text = page.lines has is in
+        let one : Lines sheet has first total p.next p.total p.before p.after = page.lines has is in
         let (m, after, text, added) = pages_lines ps p.next p.total next all more in
         let from = one.after in
         let sums = one.added in
@@ -61,7 +61,7 @@ module _ (sheet : List ℕ) (has : Contents) where
         ap (λ j. scores_in sheet has j m) from in (
           one.k + m,
           omega arith,
-          ap₂ (λ l r. l ++ r) one.text (text ∙ ap (λ j. lines_in sheet has j m) from) ∙ lines_join first one.k m,
+          ap₂ (λ l r. l ++ r) one.text.text (text ∙ ap (λ j. lines_in sheet has j m) from) ∙ lines_join first one.k m,
           omega arith,
         )
 

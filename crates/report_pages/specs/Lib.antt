@@ -2,5 +2,6 @@
 -- Assumes nothing.
 pub mod SheetLine
 pub mod ReadOnce
+pub mod Rooms
 pub mod Page
 pub mod Report

@@ -6,6 +6,8 @@ use Rattle.report_pages.specs.Page.{lines_in, scores_in, PageOf}
 use Rattle.report_pages.specs.SheetLine.{on_judged}
 use Rattle.report_lines.specs.Frame.{columns_line, total_line, refused_line}
 use Rattle.sheet.specs.Judge.{Contents, judge}
+use Rattle.report_text.specs.Puts.{text_in}
+use Rattle.report_text.specs.declared.Text.{Text}
 
 -- the report of what a sheet holds: the number of columns, the line of each column, the total
 unfoldable pub report_in : List ℕ → Contents → List ℕ
@@ -20,9 +22,10 @@ unfoldable pub report_of : List ℕ → List ℕ
 unfolding on_judged report_in refused_line
 report_of sheet = on_judged (judge sheet) (λ f. refused_line (fault_number f) (fault_line f)) (report_in sheet)
 
--- a page as it was printed: its bytes, the column to go on from, and the scores up to there
+-- a page as it was before and after it was printed, the column to go on from, and the scores up to there
 pub record Page : Type 0 where
-  pub text : List ℕ
+  pub before : Text
+  pub after : Text
   pub next : ℕ
   pub total : ℕ
 
@@ -31,9 +34,9 @@ pub record Page : Type 0 where
 abbrev pub PagesFrom : List Page → List ℕ → ℕ → ℕ → ℕ → ℕ → Type 0
 PagesFrom [] sheet first total next all = (next ≡ first) × (all ≡ total)
 PagesFrom (p ∷ ps) sheet first total next all =
-    PageOf sheet first total p.next p.total p.text × PagesFrom ps sheet p.next p.total next all
+    PageOf sheet first total p.next p.total p.before p.after × PagesFrom ps sheet p.next p.total next all
 
 -- what the pages have, one after the other
 unfoldable pub printed : List Page → List ℕ
 printed [] = []
-printed (p ∷ ps) = p.text ++ printed ps
+printed (p ∷ ps) = text_in p.after ++ printed ps

@@ -1,11 +1,13 @@
 -- The line of a column of a sheet.
 -- Assumes nothing.
-use Rattle.std.specs.Prelude.{List, ◌++◌, ◌≡◌, ℕ, ◌<◌, take}
+use Rattle.std.specs.Prelude.{List, ◌≡◌, ℕ, ◌<◌, take}
 use Rattle.parsimony.specs.Row.{score}
 use Rattle.promises.specs.Input.{column}
 use Rattle.sheet_lines.specs.declared.Fault.{Fault}
 use Rattle.sheet_tips.specs.Nodes.{lefts, rights}
 use Rattle.sheet_tips.specs.Vine.{vine_nodes}
+use Rattle.report_text.specs.Puts.{Puts}
+use Rattle.report_text.specs.declared.Text.{Text}
 use Rattle.report_lines.specs.Line.{column_line}
 use Rattle.sheet.specs.Judge.{Contents, Judged, sound, faulty, judge}
 use Rattle.sheet.specs.Table.{flat, table_of}
@@ -49,9 +51,9 @@ ReadAs (sound has) s costs left right =
     × (take s.nodes right ≡ rights has.vine 0)
 ReadAs (faulty f) s costs left right = ⊥
 
--- the line of column j is added, and k is its score
-pub record Printed (sheet : List ℕ) (has : Contents) (j : ℕ) (line line' : List ℕ) (k : ℕ) : Type 0 where
-  pub text : line' ≡ line ++ line_in sheet has j
+-- the line of column j is put, and k is its score
+pub record Printed (sheet : List ℕ) (has : Contents) (j : ℕ) (line line' : Text) (k : ℕ) : Type 0 where
+  pub text : Puts (line_in sheet has j) line line'
   pub score : k ≡ score_in sheet has j
 
 -- column j of a sheet that has been read may be printed
@@ -60,6 +62,6 @@ pub record Printable (sheet : List ℕ) (s : Sheet) (costs left right : List ℕ
   pub read : IsRead sheet s costs left right has
   pub inside : j < has.columns
 
--- the line of column j of the sheet is added, whatever the sheet holds
-pub record PrintedOf (sheet : List ℕ) (j : ℕ) (line line' : List ℕ) (k : ℕ) : Type 0 where
+-- the line of column j of the sheet is put, whatever the sheet holds
+pub record PrintedOf (sheet : List ℕ) (j : ℕ) (line line' : Text) (k : ℕ) : Type 0 where
   pub printed : (has : Contents) → judge sheet ≡ sound has → Printed sheet has j line line' k

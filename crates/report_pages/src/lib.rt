@@ -3,42 +3,32 @@
 #![tactic(auto)]
 
 ghost use Rattle.std.specs.Prelude.{◌≡◌, ◌+◌, ◌*◌, ◌<◌, ◌≤◌, length};
+ghost use Rattle.report_text.specs.Puts.{Puts};
 ghost use Rattle.sheet_lines.specs.Fault.{fault_number, fault_line};
 ghost use Rattle.report_pages.specs.Page.{LineOf, PageOf};
 ghost use Rattle.report_pages.specs.ReadOnce.{read_once};
+ghost use Rattle.report_pages.specs.Rooms.{Ample};
 ghost use Rattle.report_pages.specs.SheetLine.{ReadAs, PrintedOf};
 ghost use Rattle.report_lines.specs.Frame.{refused_line};
 ghost use Rattle.sheet.specs.Judge.{judge};
 
-use parsimony::{BARRED, Cell, MOST_NODES};
+use parsimony::{Cell, MOST_NODES};
 use report_lines::column::{MOST_LINE, column_line};
-use report_lines::frame::{MOST_FRAME, refused_line};
+use report_lines::frame::{Frame, refused_line};
 use report_text::Text;
 use sheet::{Sheet, put_cells};
 use sheet_lines::{Fault, LINE_END, MOST_NAMES};
 
 // The entries of the row room: four for each node.
-const MOST_ENTRIES: usize = 4 * MOST_NODES;
+pub const MOST_ENTRIES: usize = 4 * MOST_NODES;
 
-// Room for the work on a column.
+// Room for the work on a column, lent: for the cells, and for the states, the sets and the rows of all nodes.
 #[derive(Drop)]
-pub struct Room {
-    cells: [Cell; MOST_NAMES],
-    states: [u8; MOST_NODES],
-    sets: [Cell; MOST_NODES],
-    rows: [u32; MOST_ENTRIES],
-}
-
-impl Room {
-    // Room for a first column.
-    pub fn new() -> Room {
-        Room {
-            cells: [0; MOST_NAMES],
-            states: [0; MOST_NODES],
-            sets: [0; MOST_NODES],
-            rows: [BARRED; MOST_ENTRIES],
-        }
-    }
+pub struct Room<'a> {
+    pub cells: &'a mut [Cell; MOST_NAMES],
+    pub states: &'a mut [u8],
+    pub sets: &'a mut [Cell],
+    pub rows: &'a mut [u32],
 }
 
 // A sheet that has been read: its bytes, its numbers, its costs and its tree.
@@ -47,21 +37,18 @@ pub struct ReadSheet<'a> {
     pub bytes: &'a [u8],
     pub numbers: Sheet,
     pub costs: &'a [u16],
-    pub left: &'a [u16; MOST_NODES],
-    pub right: &'a [u16; MOST_NODES],
+    pub left: &'a [u16],
+    pub right: &'a [u16],
     pub ghost read: { ReadAs (judge bytes.now) numbers costs.now left.now right.now } by { read_once _ _ _ _ _ },
 }
 
 // Puts the line of column j, and answers the column's score.
-pub fn sheet_line<const N: usize>(
-    s: &ReadSheet,
-    j: usize,
-    room: &mut Room,
-    line: &mut Text<N>,
-) -> usize
+pub fn sheet_line(s: &ReadSheet, j: usize, room: &mut Room, line: &mut Text) -> usize
     requires inside { j < s.now.numbers.columns }
-    requires line_room { length line.old + 1056 ≤ N }
-    ensures { PrintedOf s.now.bytes.now j line.old line.new result }
+    requires room { Ample room.old }
+    requires line_room { line.old.len + 1056 ≤ length line.old.list.now }
+    ensures room { Ample room.new }
+    ensures printed { PrintedOf s.now.bytes.now j line.old line.new result }
 {
     let ReadSheet {
         bytes,
@@ -76,7 +63,7 @@ pub fn sheet_line<const N: usize>(
         numbers.columns,
         numbers.cells,
         j,
-        &mut room.cells,
+        room.cells,
     );
     column_line(
         &left[..numbers.nodes],
@@ -84,18 +71,20 @@ pub fn sheet_line<const N: usize>(
         costs,
         &room.cells[..numbers.tips],
         j,
-        &mut room.states,
-        &mut room.sets,
-        &mut room.rows,
+        room.states,
+        room.sets,
+        room.rows,
         line,
     )
 }
 
 // Puts the line of column j and its line end, and answers the column's score.
-fn put_line<const N: usize>(s: &ReadSheet, j: usize, room: &mut Room, page: &mut Text<N>) -> usize
+fn put_line(s: &ReadSheet, j: usize, room: &mut Room, page: &mut Text) -> usize
     requires inside { j < s.now.numbers.columns }
-    requires page_room { length page.old + 1057 ≤ N }
-    ensures { LineOf s.now.bytes.now j page.old page.new result }
+    requires room { Ample room.old }
+    requires page_room { page.old.len + 1057 ≤ length page.old.list.now }
+    ensures room { Ample room.new }
+    ensures line { LineOf s.now.bytes.now j page.old page.new result }
 {
     let score = sheet_line(s, j, room, page);
     page.byte(LINE_END);
@@ -111,15 +100,14 @@ pub struct Progress {
 }
 
 // Prints a page: the lines of as many columns as fit, from where the page before it ended.
-pub fn print_page<const N: usize>(
-    s: &ReadSheet,
-    from: Progress,
-    room: &mut Room,
-    page: &mut Text<N>,
-) -> Progress
+pub fn print_page(s: &ReadSheet, from: Progress, room: &mut Room, page: &mut Text) -> Progress
     requires inside { from.next ≤ s.now.numbers.columns }
-    requires page_room { 1057 ≤ N }
-    ensures { PageOf s.now.bytes.now from.next from.total result.next result.total page.new }
+    requires room { Ample room.old }
+    requires page_room { 1057 ≤ length page.old.list.now }
+    ensures room { Ample room.new }
+    ensures page { PageOf s.now.bytes.now from.next from.total result.next result.total page.old page.new }
+    ensures inside { (page.new.len ≤ length page.new.list.now)
+        × (length page.new.list.now ≡ length page.old.list.now) }
 {
     page.clear();
     let mut total = from.total;
@@ -137,7 +125,7 @@ pub fn print_page<const N: usize>(
 }
 
 // The line of a refused sheet.
-pub fn refusal_line(fault: Fault) -> Text<MOST_FRAME>
+pub fn refusal_line(fault: Fault) -> Frame
     ensures { result ≡ refused_line (fault_number fault) (fault_line fault) }
 {
     match fault {

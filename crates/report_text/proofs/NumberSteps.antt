@@ -1,10 +1,10 @@
--- The digits of a number after a text: those of its tens, and then its last.
+-- The digits of a number at the start of a room: those of its tens, and then its last.
 -- Assumes nothing.
-use Rattle.std.proofs.Common.{◌≡◌, ℕ, ◌+◌, ◌/◌, ◌%◌, ◌^◌, ◌<◌, ◌≤◌, List, [], ◌∷◌, ◌++◌, length, take}
-use Rattle.std.proofs.Common.{ap, sym, ◌∙◌, append_assoc, length-append, mod-eq_of_lt, arith}
-use Rattle.std.proofs.Math.Seq.{take-append-add}
-use Rattle.std.proofs.lemmas.List.{length-take-le, take-append-le}
+use Rattle.std.proofs.Common.{◌≡◌, ℕ, suc, ◌+◌, ◌/◌, ◌%◌, ◌^◌, ◌<◌, ◌≤◌, List, [], ◌∷◌, ◌++◌, length, get_or, set, drop}
+use Rattle.std.proofs.Common.{refl, ap, ap₂, sym, subst, ◌∙◌, append_assoc, length-append, arith}
+use Rattle.std.proofs.Math.Seq.{set-append_seam, drop-cons}
 use Rattle.report_text.specs.Decimal.{decimal}
+use Rattle.report_text.specs.Starts.{StartsWith}
 use Rattle.report_text.proofs.DecimalLaws.{decimal_small, decimal_more, decimal_length, decimal_some}
 
 -- a number has one digit more than its tens
@@ -20,33 +20,36 @@ number_some n = decimal_some n
 pub number_fits : (n : ℕ) → n < 2 ^ 64 → length (decimal n) ≤ 20
 number_fits n small = decimal_length 19 n (omega arith)
 
--- what is at the start of the room after a text is put after it
-pub room_taken : (bytes room rest : List ℕ) (len count : ℕ) {digits : List ℕ} → len ≤ length bytes
-    → count ≤ length room → take count room ≡ digits
-    → take (len + count) (take len bytes ++ (room ++ rest)) ≡ take len bytes ++ digits
-room_taken bytes room rest len count inside fits is =
-    let same : len + count ≡ length (take len bytes) + count =
-    ap (λ k. k + count) (sym (length-take-le len bytes inside)) in
-    ap (λ k. take k (take len bytes ++ (room ++ rest))) same
-    ∙ take-append-add (take len bytes) (room ++ rest) count
-    ∙ ap (λ t. take len bytes ++ t) (take-append-le count room rest fits ∙ is)
+-- a text at the start of a room, and then one byte more
+start_more : (text room now : List ℕ) (count byte : ℕ) → length text < length room
+    → StartsWith text room now count → StartsWith (text ++ byte ∷ []) room (set now count byte) (count + 1)
+start_more text room now count byte fits starts =
+    let k = length text in
+    let rest = drop (suc k) room in
+    let long = length-append text (byte ∷ []) in
+    let size = starts.long in
+    record {
+      bytes = ap₂ (λ l i. set l i byte)
+          (starts.bytes ∙ ap (λ r. text ++ r) (drop-cons room k 0 fits)) starts.long
+          ∙ set-append_seam text (get_or room k 0) rest byte
+          ∙ sym (append_assoc text (byte ∷ []) rest)
+          ∙ ap (λ j. (text ++ byte ∷ []) ++ drop j room) (let e : suc k ≡ length (text ++ byte ∷ []) = omega arith in e);
+      long = omega arith;
+    }
 
 -- the digits of the tens and then the last digit are those of the number
-pub digits_tens : (n : ℕ) → 10 ≤ n → decimal (n / 10) ++ (48 + n % 10) ∷ [] ≡ decimal n
-digits_tens n large = sym (decimal_more n large)
+pub digits_tens : (n count : ℕ) (room now : List ℕ) → 10 ≤ n → length (decimal n) ≤ length room
+    → StartsWith (decimal (n / 10)) room now count
+    → StartsWith (decimal n) room (set now count (48 + n % 10)) (count + 1)
+digits_tens n count room now large fits starts =
+    let long = tens_length n large in
+    subst (λ digits. StartsWith digits room (set now count (48 + n % 10)) (count + 1)) (sym (decimal_more n large))
+    (start_more (decimal (n / 10)) room now count (48 + n % 10) (omega arith) starts)
 
--- a number below 10 has its last digit only
-pub digits_last : (n : ℕ) → n < 10 → (48 + n % 10) ∷ [] ≡ decimal n
-digits_last n small = ap (λ k. (48 + k) ∷ []) (mod-eq_of_lt small) ∙ sym (decimal_small n small)
-
--- and so after a text
-pub number_tens : (text : List ℕ) (n : ℕ) → 10 ≤ n
-    → (text ++ decimal (n / 10)) ++ (48 + n % 10) ∷ [] ≡ text ++ decimal n
-number_tens text n large =
-    append_assoc text (decimal (n / 10)) _ ∙ ap (λ digits. text ++ digits) (digits_tens n large)
-
--- what the digits of a number need, one after the other
-pub ruleset digit_steps = (tens_length, number_some, digits_tens, digits_last)
-
--- and what they need after a text
-pub ruleset number_steps = (room_taken, tens_length, number_some, number_tens, digits_last)
+-- a number below 10 has one digit
+pub digits_last : (n : ℕ) (room : List ℕ) → n < 10 → length (decimal n) ≤ length room
+    → StartsWith (decimal n) room (set room 0 (48 + n)) 1
+digits_last n room small fits =
+    let some = decimal_some n in
+    subst (λ digits. StartsWith digits room (set room 0 (48 + n)) 1) (sym (decimal_small n small))
+    (start_more [] room room 0 (48 + n) (omega arith) (record { bytes = refl; long = refl }))

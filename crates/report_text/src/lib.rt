@@ -1,29 +1,18 @@
-// A text of at most N bytes, made from its start: a byte, a text or a number in decimal digits is put at its end.
+// A text at the start of a list that is lent: a byte, a text or a number in decimal digits is put at its end.
 #![tactic(auto)]
 
-ghost use Rattle.std.specs.Prelude.{◌+◌, ◌<◌, ◌≤◌, [], ◌∷◌, ◌++◌, ◌≡◌, length, take};
+ghost use Rattle.std.specs.Prelude.{◌+◌, ◌-◌, ◌<◌, ◌≤◌, [], ◌∷◌, ◌++◌, ◌≡◌, length, take};
 ghost use Rattle.report_text.specs.Decimal.{decimal};
 ghost use Rattle.report_text.specs.Mapped.{Mapped};
+ghost use Rattle.report_text.specs.Puts.{Puts, text_in, cleared, Fits};
+ghost use Rattle.report_text.specs.Starts.{StartsWith};
+ghost use Rattle.std.specs.List.{AllZip};
 
-use std::marker::Model;
-
-// The first len bytes are the text; those after it are room.
-// The length stands first: after the bytes, it would be read anew for each byte, and the report be a tenth slower.
+// The first len bytes of the list are the text; those after them are room.
 #[derive(Drop)]
-pub struct Text<const N: usize> {
-    len: usize,
-    bytes: [u8; N],
-}
-
-// Clauses see the text's bytes.
-impl<const N: usize> Model for Text<N> {
-    ghost use Rattle.std.specs.Prelude.{List, ℕ, ◌≤◌, take};
-
-    ghost Value = { List ℕ };
-
-    ghost view = { λ t. take t.len t.bytes };
-
-    ghost invariant = { λ t. t.len ≤ N };
+pub struct Text<'a> {
+    pub len: usize,
+    pub list: &'a mut [u8],
 }
 
 // A digit as a byte.
@@ -34,95 +23,97 @@ fn digit(x: usize) -> u8
     b'0' + x as u8
 }
 
-impl<const N: usize> Text<N> {
-    // No text.
-    pub fn new() -> Self
-        ensures { result ≡ [] }
+impl<'a> Text<'a> {
+    // No text yet, at the start of a list.
+    pub fn over(list: &'a mut [u8]) -> Text<'a>
+        ensures same { result.list.ghost_name ≡ list.entry.ghost_name }
+        ensures text { (result.len ≡ 0) × (result.list.now ≡ list.old) }
     {
-        Text {
-            len: 0,
-            bytes: [0; N],
-        }
+        Text { len: 0, list }
     }
 
     // The text's bytes.
     pub fn as_slice(&self) -> &[u8]
-        ensures { result.now ≡ self.now }
+        ensures { result.now ≡ text_in self.now }
     {
-        &self.bytes[..self.len]
+        &self.list[..self.len.min(self.list.len())]
     }
 
     // How many bytes there is room for yet.
     pub fn room(&self) -> usize
-        ensures { result + length self.now ≡ N }
+        ensures { result ≡ length self.now.list.now - self.now.len }
     {
-        N - self.len
+        self.list.len().saturating_sub(self.len)
     }
 
-    // Takes the text away, for another.
+    // Takes the text away, for another: its bytes are room again.
     pub fn clear(&mut self)
-        ensures { self.new ≡ [] }
+        ensures { self.new ≡ cleared self.old }
     {
         self.len = 0;
     }
 
     // Puts a byte.
     pub fn byte(&mut self, byte: u8)
-        requires { length self.old < N }
-        ensures { self.new ≡ self.old ++ byte ∷ [] }
+        requires { self.old.len < length self.old.list.now }
+        ensures { Puts (byte ∷ []) self.old self.new }
     {
-        self.bytes[self.len] = byte;
+        self.list[self.len] = byte;
         self.len += 1;
     }
 
     // Puts a text.
     pub fn text(&mut self, text: &[u8])
-        requires { length self.old + length text.now ≤ N }
-        ensures { self.new ≡ self.old ++ text.now }
+        requires { Fits text.now self.old }
+        ensures { Puts text.now self.old self.new }
     {
         let end = self.len + text.len();
-        let room = &mut self.bytes[..];
-        room[self.len..end].copy_from_slice(text);
+        self.list[self.len..end].copy_from_slice(text);
         self.len = end;
     }
 
     // Puts what the function makes of each byte of a text.
     pub fn mapped<F: Fn(u8) -> u8>(&mut self, text: &[u8], f: F)
         requires callable { F.IsAlwaysCallable f }
-        requires fits { length self.old + length text.now ≤ N }
+        requires fits { Fits text.now self.old }
         ensures { Mapped (F.post f) text.now self.old self.new }
     {
-        let start = self.len;
-        for (i, byte) in text.iter().enumerate() {
-            self.bytes[start + i] = f(*byte);
-        }
-        self.len = start + text.len();
+        let end = self.len + text.len();
+        map_bytes(text, f, &mut self.list[self.len..end]);
+        self.len = end;
     }
 
-    // Puts the decimal digits of a number: those of its tens, and then its last.
-    #[tactic(auto, using(std::proofs::lemmas::Grind::common_steps, crate::proofs::NumberSteps::number_steps))]
+    // Puts the decimal digits of a number.
     pub fn number(&mut self, n: usize)
-        requires { length self.old + length (decimal n) ≤ N }
-        ensures { self.new ≡ self.old ++ decimal n }
+        requires { Fits (decimal n) self.old }
+        ensures { Puts (decimal n) self.old self.new }
     {
-        if 10 <= n {
-            let room = &mut self.bytes[..];
-            self.len += put_digits(n / 10, &mut room[self.len..]);
-        }
-        self.byte(digit(n % 10));
+        self.len += put_digits(n, &mut self.list[self.len..]);
     }
 }
 
-// The same at the start of a room, and answers how many digits.
-#[tactic(auto, using(std::proofs::lemmas::Grind::common_steps, crate::proofs::NumberSteps::digit_steps))]
+// Writes what the function makes of each byte of a text into a room as long as the text.
+fn map_bytes<F: Fn(u8) -> u8>(text: &[u8], f: F, room: &mut [u8])
+    requires callable { F.IsAlwaysCallable f }
+    requires size { length room.old ≡ length text.now }
+    ensures { AllZip (F.post f) text.now room.new }
+{
+    for (i, byte) in text.iter().enumerate() {
+        room[i] = f(*byte);
+    }
+}
+
+// Writes the decimal digits of a number at the start of a room, and answers how many.
+#[tactic(auto, using(crate::proofs::NumberSteps::digits_last, crate::proofs::NumberSteps::digits_tens, crate::proofs::NumberSteps::number_some, crate::proofs::NumberSteps::tens_length))]
 fn put_digits(n: usize, room: &mut [u8]) -> usize
     requires { length (decimal n) ≤ length room.old }
-    ensures { (result ≡ length (decimal n)) × (take result room.new ≡ decimal n) }
+    ensures { StartsWith (decimal n) room.old room.new result }
 {
-    let mut count = 0;
-    if 10 <= n {
-        count = put_digits(n / 10, room);
+    if n < 10 {
+        room[0] = digit(n);
+        return 1;
     }
+    let count = put_digits(n / 10, room);
     room[count] = digit(n % 10);
     count + 1
 }

@@ -71,6 +71,17 @@ pub fn cell_row(cell: Cell, row: &mut [u32])
     }
 }
 
+// A row as it stands elsewhere: a handed tip's, or the root's that is handed up.
+// Entry by entry: for the library's `copy_from_slice` an archive for C would need a function from outside.
+pub fn copy_row(source: &[u32], row: &mut [u32])
+    requires { length row.old ≡ length source.now }
+    ensures { RowIs (entries source.now) row.new }
+{
+    for (x, entry) in row.iter_mut().enumerate() {
+        *entry = source[x];
+    }
+}
+
 // An inner node's entry for one state: both children's least added.
 fn join_entry(costs: &[u16], a: &[u32], b: &[u32]) -> u32
     requires cheap { Cheap costs.now (length a.now) × (length b.now ≡ length a.now) }

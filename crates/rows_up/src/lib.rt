@@ -10,7 +10,7 @@ ghost use Rattle.row_step.specs.Lane.{RowIs};
 
 use column_nodes::{ColumnNode, column_node};
 use promises::Sound;
-use row_step::{Rows, cell_row, costs_of, inner_row, row_at};
+use row_step::{Rows, cell_row, copy_row, costs_of, inner_row, row_at};
 
 // Node v's row in column j, from the rows of the nodes below v.
 fn node_row(sound: &Sound, j: usize, v: usize, below: &[u32], own: &mut [u32])
@@ -22,7 +22,7 @@ fn node_row(sound: &Sound, j: usize, v: usize, below: &[u32], own: &mut [u32])
     let s = sound.table.s;
     match column_node(sound, j, v) {
         ColumnNode::Symbol(cell) => cell_row(cell, own),
-        ColumnNode::Handed(handed) => own.copy_from_slice(handed),
+        ColumnNode::Handed(handed) => copy_row(handed, own),
         ColumnNode::Inner(a, b) => {
             let costs = costs_of(&sound.table);
             inner_row(&costs, row_at(below, s, a), row_at(below, s, b), own)

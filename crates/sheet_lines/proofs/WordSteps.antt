@@ -3,16 +3,14 @@
 use mathlib.Core.Bool.{true, false}
 use mathlib.Core.List.{List, [], ◌∷◌}
 use mathlib.Core.Path.{◌≡◌, refl, sym, ap, ◌∙◌}
-use Prim.Native.Nat.{ℕ, ◌+◌, ◌-◌}
+use Prim.Native.Nat.{ℕ, ◌+◌}
 use native.Mathlib.Nat.{add-zero}
 use native.Mathlib.Omega.{arith}
 use borrow.Author.Tests.{eq-eqb, ne_eqb}
 use lib.Dec.{eqb}
-use lib.ListN.{length, drop, drop_of_length-le}
-use Rattle.std.proofs.Common.{Option, Some, None, Bor, unwrap_or, ⊎_elim}
-use Rattle.std.proofs.lemmas.List.{take_all, length-drop}
+use lib.ListN.{length, drop}
+use Rattle.std.proofs.Common.{Option, Some, None}
 use Rattle.std.specs.List.{starts_with}
-use Rattle.std.specs.Slice.{IsGetRangeResult}
 use Rattle.sheet_lines.specs.Word.{word_in, word_of}
 use Rattle.parsimony.proofs.Order.{by_eq}
 use Rattle.parsimony.specs.Test.{pick}
@@ -44,11 +42,3 @@ module _ (word sheet rest : List ℕ) (at : ℕ) (here : rest ≡ drop at sheet)
   word_other e =
       let s = ap (λ r. starts_with eqb r word) here in
       sym (rw (sym s ∙ e) at (word_in_starts word (drop at sheet) at))
-
--- the sheet from a place on, or nothing where the place is past its end
-pub rest_is : (sheet : List ℕ) (at : ℕ) (found : Option (Bor (List ℕ))) (none : Bor (List ℕ)) → none.now ≡ []
-    → IsGetRangeResult sheet at (length sheet) found → (unwrap_or found none).now ≡ drop at sheet
-rest_is sheet at (Some part) none e lookup =
-    lookup.0.2 ∙ take_all (length sheet - at) (drop at sheet) (omega (arith, length-drop at sheet))
-rest_is sheet at None none e lookup =
-    ⊎_elim (λ h. e ∙ sym (drop_of_length-le sheet (omega arith))) (λ h. absurd (omega arith)) lookup.0

@@ -53,7 +53,7 @@ pub fn line_end(sheet: &[u8], at: usize) -> Option<usize>
 pub fn rest_from(sheet: &[u8], at: usize) -> &[u8]
     ensures { result.now ≡ drop at sheet.now }
 {
-    sheet.get(at..).unwrap_or(&[])
+    &sheet[at.min(sheet.len())..]
 }
 
 // The place after the word, where the sheet has the word at a place.

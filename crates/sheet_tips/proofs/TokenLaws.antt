@@ -5,9 +5,10 @@ use mathlib.Core.List.{List, [], ◌∷◌}
 use mathlib.Core.Path.{◌≡◌, refl, ap, ap₂, sym, ◌∙◌}
 use Prim.Native.Nat.{ℕ, suc, ◌+◌, ◌-◌, ◌≤◌, ◌<◌}
 use native.Mathlib.Omega.{arith}
-use borrow.Author.Tests.{lt-ltb, le-ltb}
+use borrow.Author.Tests.{lt-ltb, le-ltb, ne_eqb}
 use lib.ListN.{length, get_or, drop, take, length-drop, drop_of_length-le}
 use lib.Seq.{drop-cons, length-take-le, get_or-take}
+use Rattle.std.proofs.lemmas.List.{drop_all}
 use Rattle.std.proofs.Common.{Option, Some, None, not, cond, position, unwrap_or, ◌⊎◌, inl, inr}
 use Rattle.std.proofs.Math.Seq.{take-length}
 use Rattle.std.proofs.lemmas.Iterator.Adapters.{position_from-zero}
@@ -17,7 +18,7 @@ use Rattle.parsimony.proofs.Order.{by_lt, by_eq, pick_true, pick_false}
 use Rattle.sheet_names.specs.Name.{is_name_byte}
 use Rattle.sheet_lines.proofs.ByteLaws.{text_slice}
 use Rattle.sheet_lines.specs.Count.{on_place}
-use Rattle.sheet_lines.specs.Word.{word_of}
+use Rattle.sheet_lines.specs.Word.{word_in, word_of}
 use lib.Dec.{eqb, ltb}
 use Rattle.sheet_tips.specs.Token.{token_in, token_end, is_line_of, find_in, row_named}
 
@@ -207,3 +208,31 @@ module _ (sheet : List ℕ) (i e place : ℕ) (from : i ≤ e) where
       same
       ∙ sym (ap (λ p. on_place p false (λ stop. eqb (get_or sheet stop 0) 10))
       (ap (λ w. word_of w sheet place) (sym (text_slice sheet i e from)) ∙ some))
+
+module _ (sheet : List ℕ) (i e place : ℕ) (some : i < e) (inside : e ≤ length sheet) where
+  -- the text begins with its first byte
+  first_byte : take (e - i) (drop i sheet) ≡ get_or sheet i 0 ∷ take (e - suc i) (drop (suc i) sheet)
+  first_byte =
+      ap (take (e - i)) (drop-cons sheet i 0 (omega arith))
+      ∙ ap (λ k. take k (get_or sheet i 0 ∷ drop (suc i) sheet))
+      (let long : e - i ≡ suc (e - suc i) = omega arith in long)
+
+  -- the line is not the text where the sheet is over
+  pub line_past : length sheet ≤ place → false ≡ is_line_of sheet i e place
+  unfolding word_of word_in
+  line_past over =
+      line_not sheet i e place (omega arith)
+      (ap (λ w. word_of w sheet place) first_byte
+      ∙ ap (λ l. word_in (get_or sheet i 0 ∷ take (e - suc i) (drop (suc i) sheet)) l place)
+      (drop_all place sheet over))
+
+  -- or where it begins with another byte
+  pub line_other : place < length sheet → (get_or sheet place 0 ≡ get_or sheet i 0 → ⊥)
+      → false ≡ is_line_of sheet i e place
+  unfolding word_of word_in
+  line_other low other =
+      line_not sheet i e place (omega arith)
+      (ap (λ w. word_of w sheet place) first_byte
+      ∙ ap (λ l. word_in (get_or sheet i 0 ∷ take (e - suc i) (drop (suc i) sheet)) l place)
+      (drop-cons sheet place 0 low)
+      ∙ pick_false _ _ (ne_eqb _ _ other))

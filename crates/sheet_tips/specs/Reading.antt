@@ -41,10 +41,17 @@ pub record GivesSubtree (parsed : Parsed) (n : ℕ) (left right : List ℕ) (ans
 
 -- the same of the names at hand and the nodes that are made so far
 abbrev pub RoomForNames : List ℕ → Nodes → Type 0
-RoomForNames names nodes = RoomForSubtree names (length names) nodes.made nodes.left nodes.right nodes.marks
+RoomForNames names nodes =
+    RoomForSubtree names (length names) nodes.made nodes.left.now nodes.right.now nodes.marks.now
 
 -- the same of a reader that makes nodes, and answers with the place after a tree
 abbrev pub GivesPlace : Parsed → Nodes → Option ℕ → Nodes → Type 0
 GivesPlace parsed before answer after =
-    GivesSubtree parsed before.made before.left before.right (option_map (λ next. (next, after.made)) answer)
-    after.left after.right after.marks
+    GivesSubtree parsed before.made before.left.now before.right.now
+    (option_map (λ next. (next, after.made)) answer) after.left.now after.right.now after.marks.now
+
+-- the lists are still those that were lent
+pub record SameLists (before after : Nodes) : Type 0 where
+  pub left : after.left.ghost_name ≡ before.left.ghost_name
+  pub right : after.right.ghost_name ≡ before.right.ghost_name
+  pub marks : after.marks.ghost_name ≡ before.marks.ghost_name

@@ -4,11 +4,11 @@
 ghost use Rattle.std.specs.Prelude.{◌≡◌, ◌+◌, ◌<◌, ◌≤◌, eqb, not, length, get_or, set, position};
 ghost use Rattle.sheet_names.specs.Name.{is_name_byte};
 ghost use Rattle.sheet_tips.specs.Marks.{is_marked};
-ghost use Rattle.sheet_tips.specs.Reading.{RoomForNames, GivesPlace};
+ghost use Rattle.sheet_tips.specs.Reading.{RoomForNames, GivesPlace, SameLists};
 ghost use Rattle.sheet_tips.specs.Tip.{tip_of};
 ghost use Rattle.sheet_tips.specs.Token.{token_end, is_line_of};
 
-use parsimony::{MOST_NODES, NO_CHILD};
+use parsimony::NO_CHILD;
 use sheet_lines::{LINE_END, MOST_NAMES, rest_from, word_end};
 use sheet_names::name_byte;
 
@@ -36,11 +36,18 @@ fn token_end(sheet: &[u8], at: usize) -> usize
 }
 
 // The line at a place is the text from at up to end.
-#[tactic(auto, using(crate::proofs::TokenLaws::line_not, crate::proofs::TokenLaws::line_end_lem))]
+#[tactic(auto, using(crate::proofs::TokenLaws::line_past, crate::proofs::TokenLaws::line_other, crate::proofs::TokenLaws::line_not, crate::proofs::TokenLaws::line_end_lem))]
 fn is_line(sheet: &[u8], at: usize, end: usize, place: usize) -> bool
-    requires { (at ≤ end) × (end ≤ length sheet.now) }
+    requires { (at < end) × (end ≤ length sheet.now) }
     ensures { result ≡ is_line_of sheet.now at end place }
 {
+    // Most names differ in their first byte; only the others are compared whole, which takes a few steps to begin.
+    if sheet.len() <= place {
+        return false;
+    }
+    if sheet[place] != sheet[at] {
+        return false;
+    }
     match word_end(sheet, place, &sheet[at..end]) {
         None => false,
         Some(stop) => byte_is(sheet, stop, LINE_END),
@@ -49,7 +56,7 @@ fn is_line(sheet: &[u8], at: usize, end: usize, place: usize) -> bool
 
 // The row of the name from at up to end.
 fn find_row(sheet: &[u8], names: &[usize], at: usize, end: usize) -> Option<usize>
-    requires { (at ≤ end) × (end ≤ length sheet.now) }
+    requires { (at < end) × (end ≤ length sheet.now) }
     ensures { result ≡ position (is_line_of sheet.now at end) names.now }
 {
     names
@@ -57,32 +64,34 @@ fn find_row(sheet: &[u8], names: &[usize], at: usize, end: usize) -> Option<usiz
         .position(|&place| is_line(sheet, at, end, place))
 }
 
-// A tree table as it is read: the entries of its nodes, how many nodes are made, and the marks of the names met.
-#[derive(Drop)]
-pub struct Nodes {
-    pub left: [u16; MOST_NODES],
-    pub right: [u16; MOST_NODES],
-    pub made: usize,
-    pub marks: [u8; MOST_NAMES],
+// The name of row r has been met.
+#[tactic(auto, unfolding(crate::specs::Marks::is_marked))]
+fn test_mark(marks: &[u8; MOST_NAMES], r: usize) -> bool
+    requires { r < 512 }
+    ensures { result ≡ is_marked marks.now r }
+{
+    marks[r] == 1
 }
 
-impl Nodes {
-    // The name of row r has been met.
-    #[tactic(auto, unfolding(crate::specs::Marks::is_marked))]
-    fn test_mark(&self, r: usize) -> bool
-        requires { r < 512 }
-        ensures { result ≡ is_marked self.now.marks r }
-    {
-        self.marks[r] == 1
-    }
+// A tree table as it is read, in lists that are lent: the entries of its nodes, how many nodes are made, and the marks
+// of the names met.
+#[derive(Drop)]
+pub struct Nodes<'a> {
+    pub left: &'a mut [u16],
+    pub right: &'a mut [u16],
+    pub made: usize,
+    pub marks: &'a mut [u8; MOST_NAMES],
+}
 
+impl<'a> Nodes<'a> {
     // Makes a node of two entries.
     pub fn put_node(&mut self, l: u16, r: u16)
-        requires { self.old.made < 1023 }
-        ensures { (self.new.left ≡ set self.old.left self.old.made l)
-            × (self.new.right ≡ set self.old.right self.old.made r)
+        requires { (self.old.made < length self.old.left.now) × (self.old.made < length self.old.right.now) }
+        ensures put { (self.new.left.now ≡ set self.old.left.now self.old.made l)
+            × (self.new.right.now ≡ set self.old.right.now self.old.made r)
             × (self.new.made ≡ self.old.made + 1)
-            × (self.new.marks ≡ self.old.marks) }
+            × (self.new.marks.now ≡ self.old.marks.now) }
+        ensures same { SameLists self.old self.new }
     {
         self.left[self.made] = l;
         self.right[self.made] = r;
@@ -92,15 +101,16 @@ impl Nodes {
     // The name at a place becomes the next node, a tip: the place after it.
     pub fn read_tip(&mut self, sheet: &[u8], names: &[usize], at: usize) -> Option<usize>
         requires { RoomForNames names.now self.old }
-        ensures { GivesPlace (tip_of sheet.now names.now (length names.now) self.old.marks at)
+        ensures gives { GivesPlace (tip_of sheet.now names.now (length names.now) self.old.marks.now at)
             self.old result self.new }
+        ensures same { SameLists self.old self.new }
     {
         let end = token_end(sheet, at);
         if end == at {
             return None;
         }
         let r = find_row(sheet, names, at, end)?;
-        if self.test_mark(r) {
+        if test_mark(self.marks, r) {
             return None;
         }
         self.marks[r] = 1;

@@ -4,7 +4,7 @@
 ghost use Rattle.std.specs.Prelude.{◌≡◌, ◌<◌, ◌≤◌, length};
 ghost use Rattle.sheet_tree.specs.Parse.{pair_of, tree_of, line_tree};
 ghost use Rattle.sheet_tree.specs.Reading.{GivesLine};
-ghost use Rattle.sheet_tips.specs.Reading.{RoomForNames, GivesPlace};
+ghost use Rattle.sheet_tips.specs.Reading.{RoomForNames, GivesPlace, SameLists};
 
 use parsimony::MOST_NODES;
 use sheet_lines::MOST_NAMES;
@@ -23,8 +23,9 @@ fn read_tree(
     nodes: &mut Nodes,
 ) -> Option<usize>
     requires { RoomForNames names.now nodes.old }
-    ensures { GivesPlace (tree_of sheet.now names.now (length names.now) depth nodes.old.marks at)
+    ensures gives { GivesPlace (tree_of sheet.now names.now (length names.now) depth nodes.old.marks.now at)
         nodes.old result nodes.new }
+    ensures same { SameLists nodes.old nodes.new }
 {
     if byte_is(sheet, at, b'(') {
         return read_pair(sheet, names, at, depth, nodes);
@@ -43,8 +44,9 @@ fn read_pair(
 ) -> Option<usize>
     requires room_for_names { RoomForNames names.now nodes.old }
     requires at_in_bounds { at < length sheet.now }
-    ensures { GivesPlace (pair_of sheet.now names.now (length names.now) depth nodes.old.marks at)
+    ensures gives { GivesPlace (pair_of sheet.now names.now (length names.now) depth nodes.old.marks.now at)
         nodes.old result nodes.new }
+    ensures same { SameLists nodes.old nodes.new }
 {
     if depth == 0 {
         return None;
@@ -77,23 +79,23 @@ pub fn tree_line(
     ensures { GivesLine (line_tree sheet.now names.now (length names.now) at end)
         left.old right.old result left.new right.new }
 {
+    let mut marks = [0; MOST_NAMES];
     let mut nodes = Nodes {
-        left: *left,
-        right: *right,
+        left: &mut left[..],
+        right: &mut right[..],
         made: 0,
-        marks: [0; MOST_NAMES],
+        marks: &mut marks,
     };
     let stop = read_tree(sheet, names, at, MOST_DEEP, &mut nodes)?;
+    let made = nodes.made;
     if !byte_is(sheet, stop, b';') {
         return None;
     }
     if stop + 1 != end {
         return None;
     }
-    if nodes.made + 1 != 2 * names.len() {
+    if made + 1 != 2 * names.len() {
         return None;
     }
-    *left = nodes.left;
-    *right = nodes.right;
-    Some((stop, nodes.made))
+    Some((stop, made))
 }

@@ -8,13 +8,15 @@ use Rattle.report.proofs.write_columns.Goals as goal
 pub loop-done-smaller : goal.loop-done-smaller
 loop-done-smaller c =
     let ready = as_printable_from _ _ _ _ _ c.args.s.now.read c.loop-done.invariant.inside in
-    let next = page_next _ _ _ _ _ ready c.print_page-done.ensures c.loop-done-test.true in
+    let next = page_next _ _ _ _ _ ready c.print_page-done.ensures.page c.loop-done-test.true in
     omega arith
 
 pub loop-done-preserved : goal.loop-done-preserved
 loop-done-preserved c =
     let ready = as_printable_from _ _ _ _ _ c.args.s.now.read c.loop-done.invariant.inside in
     record {
-      inside = (page_next _ _ _ _ _ ready c.print_page-done.ensures c.loop-done-test.true).1;
+      inside = (page_next _ _ _ _ _ ready c.print_page-done.ensures.page c.loop-done-test.true).1;
       few = c.print_page-done.result.few;
+      room = c.print_page-done.ensures.room;
+      page = omega (arith, c.print_page-done.ensures.inside, c.loop-done.invariant.page);
     }

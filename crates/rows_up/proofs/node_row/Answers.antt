@@ -1,6 +1,6 @@
 -- `node_row` meets its contract: what the table says of node v gives its row, and the step that is called writes it.
 -- Assumes nothing.
-use Rattle.std.proofs.Common.{get_or, subst, ap, ap₂, sym, ◌∙◌, arith}
+use Rattle.std.proofs.Common.{subst, ap, ap₂, sym, ◌∙◌, arith}
 use Rattle.parsimony.specs.Column.{cell_entry, cost_at}
 use Rattle.parsimony.specs.Written.{entries}
 use Rattle.parsimony.proofs.LegalLaws.{legal_below}
@@ -51,7 +51,7 @@ returns-in-Handed c =
     let tip = (subst (Says _ _ _) c.in-Handed.is c.column_node.ensures).said in
     let I = input_of c.args.sound.now.table in
     let rules = allowed_known _ c.args.sound.now.allowed in
-    λ x h. ap (λ l. get_or l x 0) c.copy_from_slice.ensures.after ∙ tip.entries x (omega (arith, c.copy_from_slice.ensures.len, c.requires.room.1))
+    λ x h. c.copy_row.ensures x h ∙ tip.entries x (omega (arith, c.copy_row.auto.row, c.requires.room.1))
     ∙ handed_row I rules c.args.j c.requires.node.0 c.args.v c.requires.node.1 tip.k tip.node x
 
 pub returns-in-Inner : goal.returns-in-Inner

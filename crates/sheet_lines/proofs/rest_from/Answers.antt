@@ -1,8 +1,13 @@
--- `rest_from` meets its contract: the place is within the sheet, or past its end.
+-- `rest_from` meets its contract: past its end the sheet has nothing, as at its end.
 -- Assumes nothing.
-use mathlib.Core.Path.{refl, ap, ◌∙◌}
-use Rattle.sheet_lines.proofs.WordSteps.{rest_is}
+use Rattle.std.proofs.Common.{drop, ap, ◌∙◌, arith}
+use Rattle.std.proofs.Math.Seq.{take_all}
+use Rattle.std.proofs.lemmas.List.{drop_min, length-drop}
 use Rattle.sheet_lines.proofs.rest_from.Goals as goal
 
 pub returns : goal.returns
-returns c = ap (λ r. r.now) c.unwrap_or.ensures ∙ rest_is _ _ _ _ refl c.get.ensures.lookup
+returns c =
+    let sheet = c.args.sheet.now in
+    let long = length-drop c.min.result sheet in
+    take_all _ (drop c.min.result sheet) (omega arith)
+    ∙ ap (λ k. drop k sheet) c.min.ensures ∙ drop_min c.args.at sheet

@@ -24,14 +24,14 @@ unfolding unmarked
 returns-in_err-stop c =
     rw c.from_residual.ensures
     (record {
-      gives = line_tree_none _ _ _ _ _ (gives_no_place _ c.read_tree.ensures c.in_err-stop.was);
+      gives = line_tree_none _ _ _ _ _ (gives_no_place _ c.read_tree.ensures.gives c.in_err-stop.was);
     })
 
 pub returns-then-not-byte_is : goal.returns-then-not-byte_is
 unfolding unmarked
 returns-then-not-byte_is c =
     record {
-      gives = line_tree_stop _ _ _ _ _ _ _ _ _ _ _ _ (gives_place _ _ c.read_tree.ensures c.in_ok-stop.was)
+      gives = line_tree_stop _ _ _ _ _ _ _ _ _ _ _ _ (gives_place _ _ c.read_tree.ensures.gives c.in_ok-stop.was)
           (sym c.byte_is.ensures ∙ c.if-not-byte_is.true);
     }
 
@@ -39,30 +39,30 @@ pub returns-then-stop-end : goal.returns-then-stop-end
 unfolding unmarked
 returns-then-stop-end c =
     record {
-      gives = line_after _ _ _ _ _ _ _ _ _ _ _ _ (gives_place _ _ c.read_tree.ensures c.in_ok-stop.was)
+      gives = line_after _ _ _ _ _ _ _ _ _ _ _ _ (gives_place _ _ c.read_tree.ensures.gives c.in_ok-stop.was)
           (sym c.byte_is.ensures ∙ c.if-not-byte_is.false) c.if-stop-end.true;
     }
 
-pub overflow_add-nodes : goal.overflow_add-nodes
+pub overflow_add-made : goal.overflow_add-made
 unfolding unmarked
-overflow_add-nodes c =
+overflow_add-made c =
     record {
       fits = let n = line_nodes _ _ _ _ c.args.end _ _ _ _ _ _ _
-          (gives_place _ _ c.read_tree.ensures c.in_ok-stop.was) c.requires (omega arith) in omega arith;
+          (gives_place _ _ c.read_tree.ensures.gives c.in_ok-stop.was) c.requires (omega arith) in omega arith;
     }
 
-pub returns-then-nodes-names : goal.returns-then-nodes-names
+pub returns-then-made-names : goal.returns-then-made-names
 unfolding unmarked
-returns-then-nodes-names c =
+returns-then-made-names c =
     record {
-      gives = line_missing _ _ _ _ _ _ _ _ _ _ _ _ (gives_place _ _ c.read_tree.ensures c.in_ok-stop.was)
-          (sym c.byte_is.ensures ∙ c.if-not-byte_is.false) c.if-stop-end.false c.if-nodes-names.true;
+      gives = line_missing _ _ _ _ _ _ _ _ _ _ _ _ (gives_place _ _ c.read_tree.ensures.gives c.in_ok-stop.was)
+          (sym c.byte_is.ensures ∙ c.if-not-byte_is.false) c.if-stop-end.false c.if-made-names.true;
     }
 
 pub returns : goal.returns
 unfolding unmarked
 returns c =
     record {
-      gives = line_got _ _ _ _ _ _ _ _ _ _ _ _ (gives_place _ _ c.read_tree.ensures c.in_ok-stop.was)
-          (sym c.byte_is.ensures ∙ c.if-not-byte_is.false) c.if-stop-end.false c.if-nodes-names.false;
+      gives = line_got _ _ _ _ _ _ _ _ _ _ _ _ (gives_place _ _ c.read_tree.ensures.gives c.in_ok-stop.was)
+          (sym c.byte_is.ensures ∙ c.if-not-byte_is.false) c.if-stop-end.false c.if-made-names.false;
     }
