@@ -3,11 +3,10 @@
 #![tactic(auto)]
 
 ghost use Rattle.std.specs.Prelude.{◌≡◌, ◌+◌, ◌*◌, ◌<◌, ◌≤◌, length};
-ghost use Rattle.report_text.specs.Puts.{Puts};
 ghost use Rattle.sheet_lines.specs.Fault.{fault_number, fault_line};
 ghost use Rattle.report_pages.specs.Page.{LineOf, PageOf};
 ghost use Rattle.report_pages.specs.ReadOnce.{read_once};
-ghost use Rattle.report_pages.specs.Rooms.{Ample};
+ghost use Rattle.report_pages.specs.Rooms.{Ample, SameRoom};
 ghost use Rattle.report_pages.specs.SheetLine.{ReadAs, PrintedOf};
 ghost use Rattle.report_lines.specs.Frame.{refused_line};
 ghost use Rattle.sheet.specs.Judge.{judge};
@@ -47,7 +46,7 @@ pub fn sheet_line(s: &ReadSheet, j: usize, room: &mut Room, line: &mut Text) -> 
     requires inside { j < s.now.numbers.columns }
     requires room { Ample room.old }
     requires line_room { line.old.len + 1056 ≤ length line.old.list.now }
-    ensures room { Ample room.new }
+    ensures room { SameRoom room.old room.new }
     ensures printed { PrintedOf s.now.bytes.now j line.old line.new result }
 {
     let ReadSheet {
@@ -83,7 +82,7 @@ fn put_line(s: &ReadSheet, j: usize, room: &mut Room, page: &mut Text) -> usize
     requires inside { j < s.now.numbers.columns }
     requires room { Ample room.old }
     requires page_room { page.old.len + 1057 ≤ length page.old.list.now }
-    ensures room { Ample room.new }
+    ensures room { SameRoom room.old room.new }
     ensures line { LineOf s.now.bytes.now j page.old page.new result }
 {
     let score = sheet_line(s, j, room, page);
@@ -104,7 +103,7 @@ pub fn print_page(s: &ReadSheet, from: Progress, room: &mut Room, page: &mut Tex
     requires inside { from.next ≤ s.now.numbers.columns }
     requires room { Ample room.old }
     requires page_room { 1057 ≤ length page.old.list.now }
-    ensures room { Ample room.new }
+    ensures room { SameRoom room.old room.new }
     ensures page { PageOf s.now.bytes.now from.next from.total result.next result.total page.old page.new }
     ensures inside { (page.new.len ≤ length page.new.list.now)
         × (length page.new.list.now ≡ length page.old.list.now) }

@@ -1,7 +1,7 @@
 // A text at the start of a list that is lent: a byte, a text or a number in decimal digits is put at its end.
 #![tactic(auto)]
 
-ghost use Rattle.std.specs.Prelude.{◌+◌, ◌-◌, ◌<◌, ◌≤◌, [], ◌∷◌, ◌++◌, ◌≡◌, length, take};
+ghost use Rattle.std.specs.Prelude.{◌+◌, ◌-◌, ◌<◌, ◌≤◌, [], ◌∷◌, ◌≡◌, length};
 ghost use Rattle.report_text.specs.Decimal.{decimal};
 ghost use Rattle.report_text.specs.Mapped.{Mapped};
 ghost use Rattle.report_text.specs.Puts.{Puts, text_in, cleared, Fits};

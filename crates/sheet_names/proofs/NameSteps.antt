@@ -7,12 +7,10 @@ use Prim.Native.Nat.{ℕ, ◌+◌, ◌-◌, ◌<◌, ◌≤◌}
 use native.Mathlib.Omega.{arith}
 use borrow.Author.Tests.{eq-eqb, ne_eqb}
 use lib.Dec.{eqb}
-use lib.ListN.{length, take, drop, get_or}
-use lib.Seq.{drop-cons}
+use lib.ListN.{length, take, drop}
 use Rattle.std.proofs.Common.{Some, None, not, ◌||◌, ◌⊎◌, ⊎_elim}
 use Rattle.std.specs.Char.{is_ascii_alphanumeric}
 use Rattle.std.specs.List.{list_any, list_all}
-use Rattle.std.proofs.lemmas.List.{drop_all}
 use Rattle.sheet_lines.proofs.ByteLaws.{within_low, within_high, within_yes, range_within, all_every, text_slice}
 use Rattle.sheet_lines.proofs.EveryLaws.{no_test}
 use Rattle.sheet_lines.proofs.LineLaws.{line_from}
@@ -112,17 +110,6 @@ unfolding same_text
 same_over [] other e = refl
 same_over (a ∷ one) [] e = refl
 same_over (a ∷ one) (b ∷ other) e = ⊎_elim (λ h. absurd (cons_some h)) (λ h. absurd (cons_some h)) e
-
--- or the sheet is over where one should begin
-pub same_past : (sheet other : List ℕ) (place : ℕ) → length sheet ≤ place → false ≡ same_text (drop place sheet) other
-unfolding same_text
-same_past sheet other place over = ap (λ l. same_text l other) (sym (drop_all place sheet over))
-
--- or they begin with two bytes
-pub same_unlike : (sheet : List ℕ) (place at : ℕ) → place < length sheet → at < length sheet
-    → (get_or sheet place 0 ≡ get_or sheet at 0 → ⊥) → false ≡ same_text (drop place sheet) (drop at sheet)
-same_unlike sheet place at low inside other =
-    same_other (drop-cons sheet place 0 low) (drop-cons sheet at 0 inside) other
 
 not_or : (a b : Bool) {c : Bool} → not b ≡ c → not (a || b) ≡ pick a false c
 unfolding pick

@@ -1,14 +1,14 @@
 // The names of a sheet: 1 to 32 letters, digits, `_`, `.` and `-`, all different.
 #![tactic(auto)]
 
-ghost use Rattle.std.specs.Prelude.{[], ◌≡◌, ◌<◌, ◌≤◌, length, drop};
+ghost use Rattle.std.specs.Prelude.{[], ◌≡◌, ◌≤◌, length, drop};
 ghost use Rattle.sheet_lines.specs.Counting.{GivesCount};
 ghost use Rattle.sheet_lines.specs.Section.{GivesSection, placed, section};
 ghost use Rattle.sheet_names.specs.Name.{is_name_byte, is_name, same_text};
 ghost use Rattle.std.specs.List.{list_all, list_any};
 ghost use Rattle.sheet_names.specs.Names.{name_of, names_of};
 
-use sheet_lines::{Fault, LINE_END, MOST_NAMES, line_end, read_count};
+use sheet_lines::{Fault, LINE_END, MOST_NAMES, line_end, read_count, rest_from};
 
 // The byte is a letter, a digit, `_`, `.` or `-`.
 #[tactic(auto, using(crate::proofs::NameSteps::name_byte_yes, crate::proofs::NameSteps::name_byte_no))]
@@ -53,28 +53,14 @@ fn same_text(one: &[u8], other: &[u8]) -> bool
     false
 }
 
-// The lines at two places are the same, up to and with their ends.
-#[tactic(auto, using(crate::proofs::NameSteps::same_past, crate::proofs::NameSteps::same_unlike))]
-fn same_line(sheet: &[u8], place: usize, at: usize) -> bool
-    requires { at < length sheet.now }
-    ensures { result ≡ same_text (drop place sheet.now) (drop at sheet.now) }
-{
-    // Most names differ in their first byte; only the others are walked, which takes a few steps to begin.
-    if sheet.len() <= place {
-        return false;
-    }
-    if sheet[place] != sheet[at] {
-        return false;
-    }
-    same_text(&sheet[place..], &sheet[at..])
-}
-
 // The line at a place is the same as one of the earlier lines.
 fn is_old(sheet: &[u8], earlier: &[usize], at: usize) -> bool
-    requires { at < length sheet.now }
     ensures { result ≡ list_any (λ place. same_text (drop place sheet.now) (drop at sheet.now)) earlier.now }
 {
-    earlier.iter().any(|&place| same_line(sheet, place, at))
+    let line = rest_from(sheet, at);
+    earlier
+        .iter()
+        .any(|&place| same_text(rest_from(sheet, place), line))
 }
 
 // The name line at a place, after the earlier names: the place of the next line.

@@ -50,8 +50,10 @@ GivesPlace parsed before answer after =
     GivesSubtree parsed before.made before.left.now before.right.now
     (option_map (λ next. (next, after.made)) answer) after.left.now after.right.now after.marks.now
 
--- the lists are still those that were lent
+-- the lists are still those that were lent, and as long
 pub record SameLists (before after : Nodes) : Type 0 where
   pub left : after.left.ghost_name ≡ before.left.ghost_name
   pub right : after.right.ghost_name ≡ before.right.ghost_name
   pub marks : after.marks.ghost_name ≡ before.marks.ghost_name
+  pub left_size : length after.left.now ≡ length before.left.now
+  pub right_size : length after.right.now ≡ length before.right.now

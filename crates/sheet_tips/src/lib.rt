@@ -35,23 +35,26 @@ fn token_end(sheet: &[u8], at: usize) -> usize
     at + first_other(rest).unwrap_or(rest.len())
 }
 
-// The line at a place is the text from at up to end.
-#[tactic(auto, using(crate::proofs::TokenLaws::line_past, crate::proofs::TokenLaws::line_other, crate::proofs::TokenLaws::line_not, crate::proofs::TokenLaws::line_end_lem))]
+// The line at a place is the text from at up to end: it begins with it, and ends there.
+#[tactic(auto, using(crate::proofs::TokenLaws::line_not, crate::proofs::TokenLaws::line_end_lem))]
+fn whole_line(sheet: &[u8], at: usize, end: usize, place: usize) -> bool
+    requires { (at ≤ end) × (end ≤ length sheet.now) }
+    ensures { result ≡ is_line_of sheet.now at end place }
+{
+    match word_end(sheet, place, &sheet[at..end]) {
+        None => false,
+        Some(stop) => byte_is(sheet, stop, LINE_END),
+    }
+}
+
+// The same, where the text is not empty.
+#[tactic(auto, using(crate::proofs::TokenLaws::line_past, crate::proofs::TokenLaws::line_other))]
 fn is_line(sheet: &[u8], at: usize, end: usize, place: usize) -> bool
     requires { (at < end) × (end ≤ length sheet.now) }
     ensures { result ≡ is_line_of sheet.now at end place }
 {
     // Most names differ in their first byte; only the others are compared whole, which takes a few steps to begin.
-    if sheet.len() <= place {
-        return false;
-    }
-    if sheet[place] != sheet[at] {
-        return false;
-    }
-    match word_end(sheet, place, &sheet[at..end]) {
-        None => false,
-        Some(stop) => byte_is(sheet, stop, LINE_END),
-    }
+    place < sheet.len() && sheet[place] == sheet[at] && whole_line(sheet, at, end, place)
 }
 
 // The row of the name from at up to end.

@@ -1,7 +1,7 @@
 -- `write_columns` meets its contract: each page goes on from the one before it, and has a column more.
 -- Assumes nothing.
 use Rattle.std.proofs.Common.{arith}
-use Rattle.report_pages.proofs.PageSteps.{page_next}
+use Rattle.report_pages.proofs.PageSteps.{ample_still, page_next}
 use Rattle.report_pages.proofs.ReadLaws.{as_printable_from}
 use Rattle.report.proofs.write_columns.Goals as goal
 
@@ -17,6 +17,6 @@ loop-done-preserved c =
     record {
       inside = (page_next _ _ _ _ _ ready c.print_page-done.ensures.page c.loop-done-test.true).1;
       few = c.print_page-done.result.few;
-      room = c.print_page-done.ensures.room;
+      room = ample_still _ _ c.loop-done.invariant.room c.print_page-done.ensures.room;
       page = omega (arith, c.print_page-done.ensures.inside, c.loop-done.invariant.page);
     }
