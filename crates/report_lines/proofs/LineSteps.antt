@@ -1,10 +1,12 @@
 -- The lines put part by part.
 -- Assumes nothing.
-use Rattle.std.proofs.Common.{◌≡◌, ℕ, List, [], ◌∷◌, ◌++◌, take, ap, sym, subst, ◌∙◌}
+use Rattle.std.proofs.Common.{◌≡◌, ℕ, List, [], ◌∷◌, ◌++◌, length, take, drop, ap, ap₂, sym, subst, ◌∙◌}
+use Rattle.std.proofs.Math.Seq.{take-append_seam}
 use Rattle.report_text.specs.Decimal.{decimal}
 use Rattle.report_text.specs.Puts.{Puts}
 use Rattle.report_text.specs.declared.Text.{Text}
-use Rattle.report_text.proofs.PutLaws.{puts_then}
+use Rattle.report_text.specs.Starts.{StartsWith}
+use Rattle.report_text.proofs.PutLaws.{puts_then, puts_starts}
 use Rattle.report_marks.proofs.LetterLaws.{letters_length}
 use Rattle.report_lines.specs.Frame.{word_line, number_line, refused_line}
 use Rattle.report_lines.specs.Line.{field, line_text}
@@ -45,6 +47,16 @@ puts_refused_line number place t u v w x a b c d =
 -- a line put at the start of a list is the list's first bytes
 pub framed : (bytes : List ℕ) (t t' : Text) → t.len ≡ 0 → Puts bytes t t' → take t'.len t'.list.now ≡ bytes
 framed bytes t t' none f = f.text ∙ ap (λ k. take k t.list.now ++ bytes) none
+
+-- a list that starts with a line has it for its first bytes
+pub started : (text before after : List ℕ) (size : ℕ) → StartsWith text before after size → take size after ≡ text
+started text before after size f = ap₂ take f.long f.bytes ∙ take-append_seam text (drop (length text) before)
+
+-- what is put over the start of a list is what the list starts with
+pub starts_over : (bytes list : List ℕ) (t t' : Text) → t.len ≡ 0 → t.list.now ≡ list → Puts bytes t t'
+    → StartsWith bytes list t'.list.now t'.len
+starts_over bytes list t t' none same f =
+    subst (λ l. StartsWith bytes l t'.list.now t'.len) same (puts_starts none f)
 
 -- what a field needs, what a line, and what a word and a number
 pub ruleset field_steps = (field_length, puts_field)

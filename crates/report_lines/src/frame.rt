@@ -1,6 +1,7 @@
 // The report's other lines, each with its line end: the number of columns, the total, and the line of a refused sheet.
 ghost use Rattle.std.specs.Prelude.{◌≡◌, ◌+◌, ◌≤◌, length};
 ghost use Rattle.report_text.specs.Puts.{Fits, Puts};
+ghost use Rattle.report_text.specs.Starts.{StartsWith};
 ghost use Rattle.report_lines.specs.Frame.{word_line, number_line, columns_line, total_line, refused_line};
 
 use report_text::Text;
@@ -47,26 +48,26 @@ fn put_word(word: &[u8], n: usize, line: &mut Text)
     line.number(n);
 }
 
-// Puts the line of a word and a number.
+// Writes the line of a word and a number at the start of a list, and answers its length.
 #[tactic(auto, using(std::proofs::lemmas::Grind::common_steps, crate::proofs::LineLaws::number_line_length))]
-fn put_number_line(word: &[u8], n: usize, line: &mut Text)
-    requires { Fits (number_line word.now n) line.old }
-    ensures { Puts (number_line word.now n) line.old line.new }
+fn put_number_line(word: &[u8], n: usize, line: &mut [u8]) -> usize
+    requires { length (number_line word.now n) ≤ length line.old }
+    ensures { StartsWith (number_line word.now n) line.old line.new result }
 {
-    put_word(word, n, line);
-    line.byte(LINE_END);
+    let mut text = Text::over(line);
+    put_word(word, n, &mut text);
+    text.byte(LINE_END);
+    text.len
 }
 
 // The line of a word and a number.
-#[tactic(auto, using(crate::proofs::LineLaws::number_line_most, crate::proofs::LineSteps::framed))]
+#[tactic(auto, using(crate::proofs::LineLaws::number_line_most, crate::proofs::LineSteps::started))]
 fn number_line(word: &[u8], n: usize) -> Frame
     requires { length word.now + 21 ≤ 64 }
     ensures { result ≡ number_line word.now n }
 {
     let mut bytes = [0; MOST_FRAME];
-    let mut line = Text::over(&mut bytes);
-    put_number_line(word, n, &mut line);
-    let len = line.len;
+    let len = put_number_line(word, n, &mut bytes);
     Frame { len, bytes }
 }
 
@@ -86,26 +87,26 @@ pub fn total_line(total: usize) -> Frame
     number_line(b"total ", total)
 }
 
-// Puts the line of a refused sheet.
+// Writes the line of a refused sheet at the start of a list, and answers its length.
 #[tactic(auto, using(std::proofs::lemmas::Grind::common_steps, crate::proofs::LineLaws::refused_length))]
-fn put_refused_line(number: usize, place: usize, line: &mut Text)
-    requires { Fits (refused_line number place) line.old }
-    ensures { Puts (refused_line number place) line.old line.new }
+fn put_refused_line(number: usize, place: usize, line: &mut [u8]) -> usize
+    requires { length (refused_line number place) ≤ length line.old }
+    ensures { StartsWith (refused_line number place) line.old line.new result }
 {
-    put_word(b"refused ", number, line);
-    line.byte(SPACE);
-    line.number(place);
-    line.byte(LINE_END);
+    let mut text = Text::over(line);
+    put_word(b"refused ", number, &mut text);
+    text.byte(SPACE);
+    text.number(place);
+    text.byte(LINE_END);
+    text.len
 }
 
 // The line of a refused sheet, with the refusal's number and the sheet's line.
-#[tactic(auto, using(crate::proofs::LineLaws::refused_most, crate::proofs::LineSteps::framed))]
+#[tactic(auto, using(crate::proofs::LineLaws::refused_most, crate::proofs::LineSteps::started))]
 pub fn refused_line(number: usize, place: usize) -> Frame
     ensures { result ≡ refused_line number place }
 {
     let mut bytes = [0; MOST_FRAME];
-    let mut line = Text::over(&mut bytes);
-    put_refused_line(number, place, &mut line);
-    let len = line.len;
+    let len = put_refused_line(number, place, &mut bytes);
     Frame { len, bytes }
 }

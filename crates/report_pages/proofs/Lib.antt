@@ -1,5 +1,6 @@
 -- What the printer needs and gives, and the proof of its function.
 pub mod PrintSteps
+pub mod RoomLaws
 pub mod PageSteps
 pub mod ReadLaws
 pub mod ReportLaws

@@ -1,7 +1,8 @@
 -- `write_columns` meets its contract: each page goes on from the one before it, and has a column more.
 -- Assumes nothing.
 use Rattle.std.proofs.Common.{arith}
-use Rattle.report_pages.proofs.PageSteps.{ample_still, page_next}
+use Rattle.report_pages.proofs.PageSteps.{page_next}
+use Rattle.report_pages.proofs.RoomLaws.{ample_still}
 use Rattle.report_pages.proofs.ReadLaws.{as_printable_from}
 use Rattle.report.proofs.write_columns.Goals as goal
 

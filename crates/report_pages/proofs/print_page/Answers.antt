@@ -2,7 +2,8 @@
 -- Assumes nothing.
 use Rattle.std.proofs.Common.{rules, arith, sym, subst}
 use Rattle.report_pages.proofs.PrintSteps.{printable_nodes}
-use Rattle.report_pages.proofs.PageSteps.{ample_still, same_still, same_then, Turn, turn_none, turn_printable, turn_score, turn_more}
+use Rattle.report_pages.proofs.PageSteps.{Turn, turn_none, turn_printable, turn_score, turn_more}
+use Rattle.report_pages.proofs.RoomLaws.{ample_still, same_still, same_then}
 use Rattle.report_pages.proofs.ReadLaws.{as_printable_from}
 use Rattle.report_pages.proofs.print_page.Goals as goal
 

@@ -1,8 +1,14 @@
--- `put_refused_line` meets its contract.
+-- `put_refused_line` meets its contract: its parts are put one after the other.
 -- Assumes nothing.
-use Rattle.report_lines.proofs.LineSteps.{puts_refused_line}
+use Rattle.std.proofs.Common.{rules, subst}
+use Rattle.report_text.specs.Starts.{StartsWith}
+use Rattle.report_lines.specs.Frame.{refused_line}
+use Rattle.report_lines.proofs.LineSteps.{starts_over, puts_refused_line}
 use Rattle.report_lines.proofs.frame.put_refused_line.Goals as goal
 
 pub returns : goal.returns
 returns c =
-    puts_refused_line _ _ _ _ _ _ _ c.put_word.ensures c.byte.ensures c.number.ensures c.byte-2.ensures
+    subst (λ line. StartsWith (refused_line c.args.number c.args.place) c.args.line.now line c.byte-2.new.self.len)
+    (search rules)
+    (starts_over _ _ _ _ c.over-text.ensures.text.0 c.over-text.ensures.text.1
+    (puts_refused_line _ _ _ _ _ _ _ c.put_word.ensures c.byte.ensures c.number.ensures c.byte-2.ensures))
