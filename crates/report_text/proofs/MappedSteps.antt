@@ -6,6 +6,11 @@ use Rattle.std.specs.List.{AllZip}
 use Rattle.std.proofs.Math.Seq.{take-suc, take_all}
 use Rattle.std.proofs.lemmas.List.{take_more_set}
 use Rattle.std.proofs.lemmas.List.Elements.{AllZip-push}
+use Rattle.std.proofs.lemmas.Slice.Zip.{AllZip-long}
+use Rattle.report_text.specs.Mapped.{Mapped}
+use Rattle.report_text.specs.Puts.{Within, Fits}
+use Rattle.report_text.specs.declared.Text.{Text}
+use Rattle.report_text.proofs.PutLaws.{puts_within}
 
 -- one byte more
 pub mapped_next : (f : ℕ → ℕ → Type 0) (text room : List ℕ) (i byte : ℕ) → i < length text
@@ -23,3 +28,10 @@ pub mapped_all : (f : ℕ → ℕ → Type 0) (text room : List ℕ) (i : ℕ) �
 mapped_all f text room i all full each =
     subst (λ t. AllZip f t room) (take_all i text all)
     (subst (AllZip f (take i text)) (take_all i room full) each)
+
+-- the text that it is put after stays within its list
+pub mapped_within : (f : ℕ → ℕ → Type 0) (text : List ℕ) {t t' : Text} → Fits text t → Mapped f text t t'
+    → Within t'
+mapped_within f text fits (made, each, put) =
+    let long = AllZip-long f text made each in
+    puts_within (omega arith) put

@@ -6,7 +6,7 @@ use Rattle.std.proofs.Math.Seq.{take-append-add, drop-append-add, take-append_se
 use Rattle.std.proofs.lemmas.List.{length-take-le, length-drop, take-append-drop, drop_all, drop-set-lt, take_more_set}
 use Rattle.std.proofs.lemmas.Slice.{take-put_mid, drop-put_mid}
 use borrow.Rule.Slice.PartMut.{put_mid, same_len_mid}
-use Rattle.report_text.specs.Puts.{text_in, Fits, Puts}
+use Rattle.report_text.specs.Puts.{text_in, Within, Fits, Puts}
 use Rattle.report_text.specs.Starts.{StartsWith}
 use Rattle.report_text.specs.declared.Text.{Text}
 
@@ -63,6 +63,16 @@ puts_then {xs} {ys} {t} {u} {v} f g =
       size = g.size ∙ f.size;
       same = g.same ∙ f.same;
     }
+
+-- a text is within its list when it is begun or taken away, and stays so as bytes that fit are put
+pub none_within : (t : Text) → t.len ≡ 0 → Within t
+none_within t none = omega arith
+
+pub puts_within : {bytes : List ℕ} {t t' : Text} → Fits bytes t → Puts bytes t t' → Within t'
+puts_within fits f =
+    let end = f.end in
+    let size = f.size in
+    omega arith
 
 -- the whole list: the text, what is put, and the list as it was
 pub puts_list : {bytes : List ℕ} {t t' : Text} → Puts bytes t t'
