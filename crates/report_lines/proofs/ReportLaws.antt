@@ -33,9 +33,9 @@ use Rattle.report_marks.proofs.LetterLaws.{letters_length, letters_same, letters
 use Rattle.report_marks.proofs.OneStateLaws.{ones_same, ones_most, ones_taken}
 use Rattle.report_marks.proofs.QuietLaws.{quiet_small}
 use Rattle.report_text.proofs.DecimalLaws.{decimal_length}
-use Rattle.report_text.specs.Puts.{Within, Puts}
+use Rattle.report_text.specs.Puts.{InList, Puts}
 use Rattle.report_text.specs.declared.Text.{Text}
-use Rattle.report_text.proofs.PutLaws.{puts_within}
+use Rattle.report_text.proofs.PutLaws.{puts_in_list}
 use Rattle.report_lines.specs.Line.{line_text, column_line}
 use Rattle.report_lines.specs.Reports.{Reported}
 use Rattle.report_lines.proofs.LineLaws.{field_length, line_length}
@@ -68,14 +68,6 @@ module _ (I : Input) (table : Allowed I) (inside : 0 < I.c) where
       let lc = decimal_length 0 (quiet_mark I.cells) (let q = quiet_small I.cells in omega arith) in
       let ld = decimal_length 3 ones (omega arith) in
       omega arith
-
-  -- so what the line's writer promises keeps a text within its list
-  pub reported_within : (number : ℕ) → number ≤ 65535 → {states sets rows states' sets' rows' : List ℕ} {k : ℕ}
-      {line line' : Text} → line.len + 1056 ≤ length line.list.now
-      → Reported I number states sets rows line k states' sets' rows' line' → Within line'
-  reported_within number few room reported =
-      let most = line_most number few in
-      puts_within (omega arith) reported.text
 
   module _ {l s r states' sets' rows' : List ℕ} {k : ℕ} (done : WorkWritten I 0 l s r k states' sets' rows') where
     -- the sets have as many of one state as the definition says
@@ -152,3 +144,9 @@ pub worked_unrefused : {I : Input} {states sets rows states' sets' rows' : List 
 worked_unrefused {I} {states} {sets} {rows} {states'} {sets'} {rows'} {a} {r} is all promise =
     all_unrefused (work_rules I 0 (length states) (length sets) (length rows)) I r all
     (subst (λ b. ColumnWorked I 0 states sets rows b states' sets' rows') is promise).answer
+
+-- what the line's writer promises keeps a text in its list
+pub reported_in_list : {I : Input} {number : ℕ} {states sets rows states' sets' rows' : List ℕ}
+    {line line' : Text} {k : ℕ} → Reported I number states sets rows line k states' sets' rows' line' → InList line
+    → InList line'
+reported_in_list reported = puts_in_list reported.text

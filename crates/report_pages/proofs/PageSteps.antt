@@ -7,9 +7,9 @@ use native.Mathlib.Omega.{arith}
 use lib.ListN.{length, length-append}
 use Rattle.parsimony.specs.Barred.{barred}
 use Rattle.parsimony.proofs.Sums.{sum_zero, sum_suc}
-use Rattle.report_text.specs.Puts.{Puts, Within, cleared}
+use Rattle.report_text.specs.Puts.{Puts, InList, cleared}
 use Rattle.report_text.specs.declared.Text.{Text}
-use Rattle.report_text.proofs.PutLaws.{puts_none, puts_then, puts_within}
+use Rattle.report_text.proofs.PutLaws.{puts_none, puts_then, puts_in_list}
 use Rattle.report_pages.specs.Page.{full_line, lines_in, scores_in, LineOf, Lines, PageOf, PrintableFrom}
 use Rattle.report_pages.specs.SheetLine.{line_in, score_in, Printable, PrintedOf}
 use Rattle.report_pages.proofs.PrintSteps.{printable_score, printable_most}
@@ -17,13 +17,12 @@ use Rattle.sheet.specs.Judge.{Contents, sound, judge}
 use Rattle.sheet.specs.declared.Sheet.{Sheet}
 use Rattle.sheet.proofs.SoundSheet.{sound_same}
 
--- what the printer of a column promises keeps a text within its list
-pub printed_within : (sheet : List ℕ) (s : Sheet) (costs left right : List ℕ) (j : ℕ)
+-- what the printer of a column promises keeps a text in its list
+pub printed_in_list : (sheet : List ℕ) (s : Sheet) (costs left right : List ℕ) (j : ℕ)
     → Printable sheet s costs left right j → {page line : Text} {k : ℕ} → PrintedOf sheet j page line k
-    → page.len + 1056 ≤ length page.list.now → Within line
-printed_within sheet s costs left right j ready printed room =
-    let most = printable_most sheet s costs left right j ready in
-    puts_within (omega arith) (printed.printed ready.has ready.read.is).text
+    → InList page → InList line
+printed_in_list sheet s costs left right j ready printed =
+    puts_in_list (printed.printed ready.has ready.read.is).text
 
 -- the line and its line end
 pub line_of : {sheet : List ℕ} {j k : ℕ} {page line page' : Text} → PrintedOf sheet j page line k

@@ -6,11 +6,10 @@ use Rattle.std.specs.List.{AllZip}
 use Rattle.std.proofs.Math.Seq.{take-suc, take_all}
 use Rattle.std.proofs.lemmas.List.{take_more_set}
 use Rattle.std.proofs.lemmas.List.Elements.{AllZip-push}
-use Rattle.std.proofs.lemmas.Slice.Zip.{AllZip-long}
 use Rattle.report_text.specs.Mapped.{Mapped}
-use Rattle.report_text.specs.Puts.{Within, Fits}
+use Rattle.report_text.specs.Puts.{InList}
 use Rattle.report_text.specs.declared.Text.{Text}
-use Rattle.report_text.proofs.PutLaws.{puts_within}
+use Rattle.report_text.proofs.PutLaws.{puts_in_list}
 
 -- one byte more
 pub mapped_next : (f : ℕ → ℕ → Type 0) (text room : List ℕ) (i byte : ℕ) → i < length text
@@ -29,9 +28,6 @@ mapped_all f text room i all full each =
     subst (λ t. AllZip f t room) (take_all i text all)
     (subst (AllZip f (take i text)) (take_all i room full) each)
 
--- the text that it is put after stays within its list
-pub mapped_within : (f : ℕ → ℕ → Type 0) (text : List ℕ) {t t' : Text} → Fits text t → Mapped f text t t'
-    → Within t'
-mapped_within f text fits (made, each, put) =
-    let long = AllZip-long f text made each in
-    puts_within (omega arith) put
+-- the text that it is put after stays in its list
+pub mapped_in_list : (f : ℕ → ℕ → Type 0) (text : List ℕ) {t t' : Text} → Mapped f text t t' → InList t → InList t'
+mapped_in_list f text (made, each, put) = puts_in_list put

@@ -1,12 +1,13 @@
 -- Laws of what is put at the end of a text.
 -- Assumes nothing.
 use Rattle.std.proofs.Common.{◌≡◌, ℕ, ◌+◌, ◌-◌, ◌<◌, List, [], ◌∷◌, ◌++◌, length, take, drop}
-use Rattle.std.proofs.Common.{refl, ap, ap₂, sym, subst, ◌∙◌, append_assoc, append-nil, length-append, length-set, set, arith}
+use Rattle.std.proofs.Common.{refl, ap, ap₂, sym, subst, ◌∙◌, append_assoc, append-nil, set, arith}
+use Rattle.std.proofs.Common.{length-append, length-set, length-take}
 use Rattle.std.proofs.Math.Seq.{take-append-add, drop-append-add, take-append_seam, drop-append_seam, drop-drop, take_all}
 use Rattle.std.proofs.lemmas.List.{length-take-le, length-drop, take-append-drop, drop_all, drop-set-lt, take_more_set}
 use Rattle.std.proofs.lemmas.Slice.{take-put_mid, drop-put_mid}
 use borrow.Rule.Slice.PartMut.{put_mid, same_len_mid}
-use Rattle.report_text.specs.Puts.{text_in, Within, Fits, Puts}
+use Rattle.report_text.specs.Puts.{text_in, InList, Fits, Puts}
 use Rattle.report_text.specs.Starts.{StartsWith}
 use Rattle.report_text.specs.declared.Text.{Text}
 
@@ -64,14 +65,16 @@ puts_then {xs} {ys} {t} {u} {v} f g =
       same = g.same ∙ f.same;
     }
 
--- a text is within its list when it is begun or taken away, and stays so as bytes that fit are put
-pub none_within : (t : Text) → t.len ≡ 0 → Within t
-none_within t none = omega arith
+-- a text is in its list when it is begun or taken away, and stays so as bytes are put
+pub none_in_list : (t : Text) → t.len ≡ 0 → InList t
+none_in_list t none = omega arith
 
-pub puts_within : {bytes : List ℕ} {t t' : Text} → Fits bytes t → Puts bytes t t' → Within t'
-puts_within fits f =
+pub puts_in_list : {bytes : List ℕ} {t t' : Text} → Puts bytes t t' → InList t → InList t'
+puts_in_list {bytes} {t} {t'} f inside =
+    let long = ap length f.text ∙ length-append (text_in t) bytes in
+    let before = length-take-le t.len t.list.now inside in
+    let after = length-take t'.len t'.list.now in
     let end = f.end in
-    let size = f.size in
     omega arith
 
 -- the whole list: the text, what is put, and the list as it was

@@ -7,9 +7,9 @@ use Rattle.report_text.specs.declared.Text.{Text}
 abbrev pub text_in : Text → List ℕ
 text_in t = take t.len t.list.now
 
--- the text is within its list
-abbrev pub Within : Text → Type 0
-Within t = t.len ≤ length t.list.now
+-- the text is in its list: it is no longer than that
+abbrev pub InList : Text → Type 0
+InList t = t.len ≤ length t.list.now
 
 -- the list has room for these bytes after the text
 abbrev pub Fits : List ℕ → Text → Type 0
