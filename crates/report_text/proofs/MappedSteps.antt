@@ -28,6 +28,6 @@ mapped_all f text room i all full each =
     subst (λ t. AllZip f t room) (take_all i text all)
     (subst (AllZip f (take i text)) (take_all i room full) each)
 
--- the text that it is put after stays in its list
+-- a text stays in its list when what a function makes of another's bytes is put after it
 pub mapped_in_list : (f : ℕ → ℕ → Type 0) (text : List ℕ) {t t' : Text} → Mapped f text t t' → InList t → InList t'
 mapped_in_list f text (made, each, put) = puts_in_list put

@@ -7,7 +7,7 @@ use Rattle.report_text.specs.declared.Text.{Text}
 abbrev pub text_in : Text → List ℕ
 text_in t = take t.len t.list.now
 
--- the text is in its list: it is no longer than that
+-- the text is in its list: it is no longer than the list
 abbrev pub InList : Text → Type 0
 InList t = t.len ≤ length t.list.now
 
