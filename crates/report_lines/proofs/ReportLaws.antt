@@ -33,9 +33,8 @@ use Rattle.report_marks.proofs.LetterLaws.{letters_length, letters_same, letters
 use Rattle.report_marks.proofs.OneStateLaws.{ones_same, ones_most, ones_taken}
 use Rattle.report_marks.proofs.QuietLaws.{quiet_small}
 use Rattle.report_text.proofs.DecimalLaws.{decimal_length}
-use Rattle.report_text.specs.Puts.{InList, Puts}
+use Rattle.report_text.specs.Puts.{Puts}
 use Rattle.report_text.specs.declared.Text.{Text}
-use Rattle.report_text.proofs.PutLaws.{puts_in_list}
 use Rattle.report_lines.specs.Line.{line_text, column_line}
 use Rattle.report_lines.specs.Reports.{Reported}
 use Rattle.report_lines.proofs.LineLaws.{field_length, line_length}
@@ -144,9 +143,3 @@ pub worked_unrefused : {I : Input} {states sets rows states' sets' rows' : List 
 worked_unrefused {I} {states} {sets} {rows} {states'} {sets'} {rows'} {a} {r} is all promise =
     all_unrefused (work_rules I 0 (length states) (length sets) (length rows)) I r all
     (subst (λ b. ColumnWorked I 0 states sets rows b states' sets' rows') is promise).answer
-
--- what the line's writer promises keeps a text in its list
-pub reported_in_list : {I : Input} {number : ℕ} {states sets rows states' sets' rows' : List ℕ}
-    {line line' : Text} {k : ℕ} → Reported I number states sets rows line k states' sets' rows' line' → InList line
-    → InList line'
-reported_in_list reported = puts_in_list reported.text

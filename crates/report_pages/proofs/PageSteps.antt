@@ -4,25 +4,18 @@ use mathlib.Core.List.{List, [], ◌∷◌, ◌++◌}
 use mathlib.Core.Path.{◌≡◌, refl, ap, sym, ◌∙◌, subst}
 use Prim.Native.Nat.{ℕ, suc, ◌+◌, ◌*◌, ◌<◌, ◌≤◌}
 use native.Mathlib.Omega.{arith}
-use lib.ListN.{length, length-append}
+use lib.ListN.{length}
 use Rattle.parsimony.specs.Barred.{barred}
 use Rattle.parsimony.proofs.Sums.{sum_zero, sum_suc}
 use Rattle.report_text.specs.Puts.{Puts, InList, cleared}
 use Rattle.report_text.specs.declared.Text.{Text}
-use Rattle.report_text.proofs.PutLaws.{puts_none, puts_then, puts_in_list}
+use Rattle.report_text.proofs.PutLaws.{none_in_list, puts_in_list, puts_none, puts_then}
 use Rattle.report_pages.specs.Page.{full_line, lines_in, scores_in, LineOf, Lines, PageOf, PrintableFrom}
-use Rattle.report_pages.specs.SheetLine.{line_in, score_in, Printable, PrintedOf}
+use Rattle.report_pages.specs.SheetLine.{score_in, Printable, PrintedOf}
 use Rattle.report_pages.proofs.PrintSteps.{printable_score, printable_most}
 use Rattle.sheet.specs.Judge.{Contents, sound, judge}
 use Rattle.sheet.specs.declared.Sheet.{Sheet}
 use Rattle.sheet.proofs.SoundSheet.{sound_same}
-
--- what the printer of a column promises keeps a text in its list
-pub printed_in_list : (sheet : List ℕ) (s : Sheet) (costs left right : List ℕ) (j : ℕ)
-    → Printable sheet s costs left right j → {page line : Text} {k : ℕ} → PrintedOf sheet j page line k
-    → InList page → InList line
-printed_in_list sheet s costs left right j ready printed =
-    puts_in_list (printed.printed ready.has ready.read.is).text
 
 -- the line and its line end
 pub line_of : {sheet : List ℕ} {j k : ℕ} {page line page' : Text} → PrintedOf sheet j page line k
@@ -45,22 +38,13 @@ line_end_room sheet s costs left right j ready page line k printed fits =
     let size = text.size in
     omega arith
 
--- which is at most 1,057 bytes long
-full_line_most : (sheet : List ℕ) (s : Sheet) (costs left right : List ℕ) (j : ℕ)
-    → (ready : Printable sheet s costs left right j) → length (full_line sheet ready.has j) ≤ 1057
-unfolding full_line
-full_line_most sheet s costs left right j ready =
-    let most = printable_most sheet s costs left right j ready in
-    let long = length-append (line_in sheet ready.has j) (10 ∷ []) in
-    omega arith
-
 -- The page after some turns: the lines so far and their scores.
 pub record Turn (sheet : List ℕ) (first total next all : ℕ) (page page' : Text) : Type 0 where
   pub lines : (has : Contents) → judge sheet ≡ sound has → Lines sheet has first total next all page page'
   pub few : all ≤ next * 4294967295
   pub from : first ≤ next
   pub none : next ≡ first → page'.len ≡ 0
-  pub inside : page'.len ≤ length page'.list.now
+  pub inside : InList page'
   pub size : length page'.list.now ≡ length page.list.now
 
 pub turn_none : (sheet : List ℕ) (s : Sheet) (costs left right : List ℕ) (first total : ℕ) (page : Text)
@@ -80,7 +64,7 @@ turn_none sheet s costs left right first total page ready few =
       few = few;
       from = omega arith;
       none = λ e. refl;
-      inside = omega arith;
+      inside = none_in_list (cleared page) refl;
       size = refl;
     }
 
@@ -103,18 +87,14 @@ module _ (sheet : List ℕ) (s : Sheet) (costs left right : List ℕ) (first tot
       omega arith
 
   -- and it is printed, as one more line
-  pub turn_more : next < s.columns → (page'' : Text) (k : ℕ) → page'.len + 1057 ≤ length page'.list.now
-      → LineOf sheet next page' page'' k → Turn sheet first total (next + 1) (all + k) page page''
-  unfolding lines_in scores_in turn_printable
-  turn_more low page'' k room put =
+  pub turn_more : next < s.columns → (page'' : Text) (k : ℕ) → LineOf sheet next page' page'' k
+      → Turn sheet first total (next + 1) (all + k) page page''
+  unfolding lines_in scores_in
+  turn_more low page'' k put =
       let few = turn.few in
       let small = turn_score low page'' k put in
       let from = turn.from in
       let puts = put.text ready.has ready.read.is in
-      let end = puts.end in
-      let size = puts.size in
-      let most : length (full_line sheet ready.has next) ≤ 1057 =
-      full_line_most sheet s costs left right next (turn_printable low) in
       record {
         lines = λ has is. let before = turn.lines has is in
             let eq : ready.has ≡ has = sound_same (sym ready.read.is ∙ is) in
@@ -136,7 +116,7 @@ module _ (sheet : List ℕ) (s : Sheet) (costs left right : List ℕ) (first tot
         few = omega arith;
         from = omega arith;
         none = λ e. absurd (omega arith);
-        inside = omega arith;
+        inside = puts_in_list puts turn.inside;
         size = puts.size ∙ turn.size;
       }
 

@@ -6,10 +6,6 @@ use Rattle.std.specs.List.{AllZip}
 use Rattle.std.proofs.Math.Seq.{take-suc, take_all}
 use Rattle.std.proofs.lemmas.List.{take_more_set}
 use Rattle.std.proofs.lemmas.List.Elements.{AllZip-push}
-use Rattle.report_text.specs.Mapped.{Mapped}
-use Rattle.report_text.specs.Puts.{InList}
-use Rattle.report_text.specs.declared.Text.{Text}
-use Rattle.report_text.proofs.PutLaws.{puts_in_list}
 
 -- one byte more
 pub mapped_next : (f : ℕ → ℕ → Type 0) (text room : List ℕ) (i byte : ℕ) → i < length text
@@ -27,7 +23,3 @@ pub mapped_all : (f : ℕ → ℕ → Type 0) (text room : List ℕ) (i : ℕ) �
 mapped_all f text room i all full each =
     subst (λ t. AllZip f t room) (take_all i text all)
     (subst (AllZip f (take i text)) (take_all i room full) each)
-
--- a text stays in its list when what a function makes of another's bytes is put after it
-pub mapped_in_list : (f : ℕ → ℕ → Type 0) (text : List ℕ) {t t' : Text} → Mapped f text t t' → InList t → InList t'
-mapped_in_list f text (made, each, put) = puts_in_list put

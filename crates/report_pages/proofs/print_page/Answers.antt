@@ -1,6 +1,6 @@
 -- `print_page` meets its contract: each turn puts the line of one column.
 -- Assumes nothing.
-use Rattle.std.proofs.Common.{rules, arith, sym, subst}
+use Rattle.std.proofs.Common.{arith, sym, subst}
 use Rattle.report_pages.proofs.PrintSteps.{printable_nodes}
 use Rattle.report_pages.proofs.PageSteps.{Turn, turn_none, turn_printable, turn_score, turn_more}
 use Rattle.report_pages.proofs.RoomLaws.{ample_still, same_still, same_then}
@@ -28,6 +28,6 @@ pub loop-next-preserved : goal.loop-next-preserved
 loop-next-preserved c =
     let ready = as_printable_from _ _ _ _ _ c.args.s.now.read c.requires.inside in (
       same_then _ _ _ c.loop-next.invariant.0 c.put_line-score.ensures.room,
-      turn_more _ _ _ _ _ _ _ _ _ _ _ ready c.loop-next.invariant.1 c.loop-next-test.true _ _ (search rules)
+      turn_more _ _ _ _ _ _ _ _ _ _ _ ready c.loop-next.invariant.1 c.loop-next-test.true _ _
           c.put_line-score.ensures.line,
     )
